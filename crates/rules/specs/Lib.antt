@@ -1,0 +1,12 @@
+pub mod Clauses
+pub mod Plans
+pub mod Cells
+pub mod Case
+pub mod Questions
+pub mod Filling
+pub mod Showing
+pub mod Results
+pub mod Steps
+pub mod Claims
+pub mod Machine
+pub mod Examples

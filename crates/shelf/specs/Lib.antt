@@ -1,0 +1,3 @@
+pub mod Literals
+pub mod View
+pub mod Answers
