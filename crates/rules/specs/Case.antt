@@ -8,21 +8,16 @@
 --            place and perhaps more
 --   idle-case, opened-case   a bench just made; a case just opened
 --   cell-at      the cell of a place; soft with nothing past the ledger's end
---   filled       whether a place is there and holds a clause
---   vacant       whether a place is there and free
---   roomy v p n  whether the n places from p on are there and free
 --   known        the highest variable that a literal may have: at most the
 --                case's number and at most the shelf's
-use mathlib.Core.Bool.{Bool, true, false, not, _&&_}
-use mathlib.Core.List.{List, []}
-use Prim.Native.Nat.{ℕ, zero, suc, _+_, min}
-use lib.Dec.{ltb}
+use mathlib.Core.Bool.{Bool, true, false}
+use mathlib.Core.List.{List}
+use Prim.Native.Nat.{ℕ, min}
 use lib.IntN.{ℤ}
 use lib.ListN.{getD}
 use Rattle.std.specs.declared.option.Option.{Option}
 use Rattle.std.specs.declared.option.Option.the-variants.{Some, None}
-use Rattle.shelf.specs.Literals.{none}
-use Rattle.shelf.specs.View.{View, clause}
+use Rattle.shelf.specs.View.{View}
 use Rattle.cost.specs.Figures.{zeros}
 use Rattle.rules.specs.Cells.{Cell, hard, soft}
 
@@ -78,16 +73,6 @@ takes-steps closed = false
 
 abbrev pub cell-at : ℕ → List Cell → ℕ → Cell
 cell-at r ledger p = getD ledger p (soft (zeros r))
-
-abbrev pub filled : View → ℕ → Bool
-filled v p = ltb p (v .places) && not (none (clause v p))
-
-abbrev pub vacant : View → ℕ → Bool
-vacant v p = ltb p (v .places) && none (clause v p)
-
-unfoldable pub roomy : View → ℕ → ℕ → Bool
-roomy v p zero = true
-roomy v p (suc n) = vacant v p && roomy v (p + 1) n
 
 abbrev pub known : ℕ → View → ℕ
 known n v = min n (v .highest)

@@ -16,12 +16,13 @@ use lib.ListN.{length, set, replicate}
 use lib.Signed.{leZ}
 use Rattle.std.specs.Orderings.{isEq}
 use Rattle.shelf.specs.Literals.{none}
+use Rattle.shelf.specs.Room.{vacant}
 use Rattle.shelf.specs.View.{View, with-held, emptied}
 use Rattle.cost.specs.Figures.{zeros, plus, order}
 use Rattle.cost.specs.Reach.{Scale, in-reach}
 use Rattle.rules.specs.Clauses.{rises}
 use Rattle.rules.specs.Cells.{Cell, hard, soft}
-use Rattle.rules.specs.Case.{Case, State, sealed, opened-case, is-filling, vacant, known, with-phase}
+use Rattle.rules.specs.Case.{Case, State, sealed, opened-case, is-filling, known, with-phase}
 use Rattle.rules.specs.Questions.{Question, asks, reach-reply, first-no, Outcome, outcome, grants}
 
 abbrev pub ledger-long : State → Bool

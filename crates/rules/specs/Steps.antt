@@ -4,7 +4,8 @@
 --   settled       the state with a place's cell written, and the place freed where
 --                 nothing is left
 --   worked        the state with its case working
---   remainders    the exact amounts that a parent keeps, none if it is hard
+--   remainders    the new amount of a parent: what a soft one keeps; none if it is
+--                 hard, since it stays
 --   X-questions, X-done, X-does   as for the other calls
 use mathlib.Core.Bool.{Bool, true, false, cond, not, _&&_, _||_}
 use mathlib.Core.List.{List, [], _∷_, _++_}
@@ -16,12 +17,13 @@ use Rattle.std.specs.Orderings.{isGt}
 use Rattle.std.specs.declared.option.Option.{Option}
 use Rattle.std.specs.declared.option.Option.the-variants.{Some, None}
 use Rattle.shelf.specs.Literals.{among, stands, put, none}
+use Rattle.shelf.specs.Room.{filled, roomy}
 use Rattle.shelf.specs.View.{View, clause, with-held}
 use Rattle.cost.specs.Figures.{zeros, plus, minus, order}
 use Rattle.cost.specs.Reach.{Scale}
 use Rattle.rules.specs.Clauses.{rises, same-codes}
 use Rattle.rules.specs.Cells.{Cell, hard, soft, is-hard, smaller, less, joined, is-nothing}
-use Rattle.rules.specs.Case.{Case, State, working, takes-steps, cell-at, filled, roomy, known, with-phase}
+use Rattle.rules.specs.Case.{Case, State, working, takes-steps, cell-at, known, with-phase}
 use Rattle.rules.specs.Questions.{Question, asks, reach-reply, first-no, Outcome, outcome, grants}
 use Rattle.rules.specs.Filling.{ledger-long, with-bench}
 use Rattle.rules.specs.Results.{resolvents, halves, defining, kept, short-enough, has-empty, laid, alike}
@@ -89,7 +91,7 @@ join-does k s i j = outcome (first-no (join-questions k s i j)) s (grants (worke
 
 abbrev pub remainders : Cell → Cell → List (List ℤ)
 remainders hard m = []
-remainders (soft a) hard = a ∷ []
+remainders (soft a) hard = []
 remainders (soft a) (soft m) = minus a m ∷ []
 
 -- what an empty result with the cell m makes of the proved cost z

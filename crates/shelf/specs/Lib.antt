@@ -1,3 +1,4 @@
 pub mod Literals
 pub mod View
+pub mod Room
 pub mod Answers

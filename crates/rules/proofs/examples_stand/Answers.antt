@@ -1,8 +1,8 @@
 use mathlib.Core.Path.{refl}
 use Rattle.shelf.specs.Literals.{among, put, stands}
+use Rattle.shelf.specs.Room.{roomy}
 use Rattle.rules.specs.Clauses.{rises, without, into, merge, compensations, vanishes, turned}
 use Rattle.rules.specs.Plans.{meets, bits}
-use Rattle.rules.specs.Case.{roomy}
 use Rattle.rules.specs.Filling.{none-negative, open-does, hard-does, soft-does, seal-does}
 use Rattle.rules.specs.Showing.{hard-met, owed, partial-sums, summed, show-does}
 use Rattle.rules.specs.Results.{kept, short-enough, has-empty, laid}
