@@ -1,2 +1,3 @@
 pub mod Meaning
 pub mod Dues
+pub mod Bills

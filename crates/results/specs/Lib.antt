@@ -1,0 +1,4 @@
+pub mod Spread
+pub mod Parents
+pub mod Counting
+pub mod Placing

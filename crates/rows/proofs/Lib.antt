@@ -1,0 +1,5 @@
+pub mod Puts
+pub mod Rowing
+pub mod Slips
+pub mod Writings
+pub mod Steps
