@@ -1,15 +1,12 @@
 -- Sums and differences of small signed numbers, as code passes them to a call:
 -- to their bits and back.
-use mathlib.Core.Path.{_≡_, ap, _∙_}
+use mathlib.Core.Path.{_≡_}
 use native.Mathlib.Omega.{arith}
 use lib.IntN.{ℤ, pos, negsuc, _+ℤ_, _-ℤ_}
 use lib.Signed.{_≤ℤ_}
 use mir.Syntax.{w64}
 use mir.Val.{toZ, ofZ}
 use Rattle.std.proofs.shelf.Signed.{ints}
-
-pub both : {X Y : Type 0} (F : X → X → Y) (x x′ y y′ : X) → x ≡ x′ → y ≡ y′ → F x y ≡ F x′ y′
-both F x x′ y y′ p q = ap (λ z. F z y) p ∙ ap (F x′) q
 
 abbrev pub Small : ℤ → Type 0
 Small x = (negsuc 999999999 ≤ℤ x) × (x ≤ℤ pos 1000000000)

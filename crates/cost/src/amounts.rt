@@ -5,6 +5,8 @@ ghost use lib.Signed.{_≤ℤ_};
 
 pub mod by_minutes;
 pub mod by_slots;
+#[cfg(test)]
+mod foreign;
 
 // Minutes late, from −10^12 to 10^12.
 #[derive(Clone, Copy)]

@@ -4,4 +4,6 @@
 pub mod amounts;
 pub mod kind;
 pub mod laws;
+#[cfg(test)]
+mod tests;
 pub mod tier;

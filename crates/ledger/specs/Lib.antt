@@ -1,3 +1,4 @@
 pub mod Meaning
 pub mod Dues
 pub mod Bills
+pub mod Given

@@ -7,6 +7,7 @@ ghost use Rattle.rules.specs.Case.{cell-at};
 ghost use Rattle.rules.specs.Cells.{is-hard, is-nothing as nothing-left, smaller as smaller-of};
 ghost use Rattle.ledger.specs.Meaning.{cell-of, cells-of, written};
 ghost use Rattle.ledger.specs.declared.cell.Cell.the-variants.{Soft};
+use crate::amounts::is_zero;
 use crate::cell::Cell;
 use cost::kind::CostKind;
 use std::cmp::Ordering;
@@ -27,10 +28,7 @@ pub fn is_nothing<K: CostKind>(cell: Cell<K::Amount>) -> bool
 {
     match cell {
         Cell::Hard => false,
-        Cell::Soft(a) => match K::compare(a, K::nothing()) {
-            Ordering::Equal => true,
-            _ => false,
-        },
+        Cell::Soft(a) => is_zero::<K>(a),
     }
 }
 

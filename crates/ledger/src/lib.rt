@@ -3,5 +3,6 @@
 pub mod bills;
 pub mod cell;
 pub mod cells;
+pub mod amounts;
 pub mod dues;
 pub mod weighed;

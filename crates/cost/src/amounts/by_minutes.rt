@@ -14,6 +14,7 @@ const REACH: i64 = 1_000_000_000_000;
 
 pub impl CostKind for Minutes as MinutesCostKind {
     type Amount = Minutes;
+
     type Row = MinutesRow;
 
     ghost kind = { minutes-kind };

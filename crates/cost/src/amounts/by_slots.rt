@@ -16,6 +16,7 @@ const REACH: i64 = 1_000_000_000;
 
 pub impl CostKind for Slots as SlotsCostKind {
     type Amount = Slots;
+
     type Row = SlotsRow;
 
     ghost kind = { slots-kind };
@@ -25,7 +26,10 @@ pub impl CostKind for Slots as SlotsCostKind {
     }
 
     fn nothing() -> Slots {
-        Slots { slots: 0, minutes: 0 }
+        Slots {
+            slots: 0,
+            minutes: 0,
+        }
     }
 
     fn make(figures: &[i64]) -> Result<Slots, Tier> {
@@ -62,13 +66,19 @@ pub impl CostKind for Slots as SlotsCostKind {
     }
 
     fn row(a: Slots) -> SlotsRow {
-        SlotsRow { slots: a.slots, minutes: a.minutes }
+        SlotsRow {
+            slots: a.slots,
+            minutes: a.minutes,
+        }
     }
 
     fn read(row: SlotsRow) -> Slots {
         match checked(row.slots, row.minutes) {
             Ok(a) => a,
-            Err(_) => Slots { slots: 0, minutes: 0 },
+            Err(_) => Slots {
+                slots: 0,
+                minutes: 0,
+            },
         }
     }
 }

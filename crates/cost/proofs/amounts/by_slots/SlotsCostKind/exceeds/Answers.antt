@@ -1,9 +1,9 @@
-use mathlib.Core.Path.{_∙_}
+use mathlib.Core.Path.{ap₂, _∙_}
 use mathlib.Core.List.{[], _∷_}
 use Rattle.std.specs.Orderings.{isGt}
 use Rattle.cost.specs.Figures.{order}
 use Rattle.cost.specs.Models.{slots-kind}
-use Rattle.cost.proofs.Signs.{both, added}
+use Rattle.cost.proofs.Signs.{added}
 use Rattle.cost.proofs.amounts.by_slots.SlotsCostKind.exceeds.Needs as need
 
 pub returns : need.returns
@@ -12,4 +12,4 @@ returns c =
     let b = c .args .b in
     let p = a .ok in
     let q = b .ok in
-    c .above .ensures ∙ both (λ s m. isGt (order (s ∷ m ∷ []) (slots-kind .figures (c .args .c)))) _ _ _ _ (added (a .slots) (b .slots) (p .0, p .1) (q .0, q .1)) (added (a .minutes) (b .minutes) (p .2, p .3) (q .2, q .3))
+    c .above .ensures ∙ ap₂ (λ s m. isGt (order (s ∷ m ∷ []) (slots-kind .figures (c .args .c)))) (added (a .slots) (b .slots) (p .0, p .1) (q .0, q .1)) (added (a .minutes) (b .minutes) (p .2, p .3) (q .2, q .3))

@@ -1,8 +1,8 @@
-use mathlib.Core.Path.{_∙_}
+use mathlib.Core.Path.{ap₂, _∙_}
 use mathlib.Core.List.{[], _∷_}
 use Rattle.cost.specs.Models.{slots-kind}
 use Rattle.cost.specs.Reach.{reached}
-use Rattle.cost.proofs.Signs.{both, added}
+use Rattle.cost.proofs.Signs.{added}
 use Rattle.cost.proofs.amounts.by_slots.SlotsCostKind.sum.Needs as need
 
 pub returns : need.returns
@@ -11,4 +11,4 @@ returns c =
     let b = c .args .b in
     let p = a .ok in
     let q = b .ok in
-    c .checked .ensures ∙ both (λ s m. reached (slots-kind .scale) (s ∷ m ∷ [])) _ _ _ _ (added (a .slots) (b .slots) (p .0, p .1) (q .0, q .1)) (added (a .minutes) (b .minutes) (p .2, p .3) (q .2, q .3))
+    c .checked .ensures ∙ ap₂ (λ s m. reached (slots-kind .scale) (s ∷ m ∷ [])) (added (a .slots) (b .slots) (p .0, p .1) (q .0, q .1)) (added (a .minutes) (b .minutes) (p .2, p .3) (q .2, q .3))
