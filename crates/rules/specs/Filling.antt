@@ -7,8 +7,8 @@
 --   placed        the state with a clause and its cell at a place
 --   X-questions, X-done, X-does   the questions of a call, the state once it is
 --                 granted, and its outcome
-use mathlib.Core.Bool.{Bool, true, false, not, _&&_, _||_}
-use mathlib.Core.List.{List, [], _∷_}
+use mathlib.Core.Bool.{Bool, true, false, cond, not, _&&_, _||_}
+use mathlib.Core.List.{List, [], _∷_, _++_}
 use Prim.Native.Nat.{ℕ}
 use lib.Dec.{leb, eqb}
 use lib.IntN.{ℤ, pos}
@@ -58,19 +58,19 @@ open-does k s n = outcome (first-no (open-questions s n)) s (grants (open-done k
 
 -- hard: a clause that must be met; an empty one sets the mark and uses no place
 
-abbrev pub hard-questions : State → ℕ → List ℕ → List Question
-hard-questions s p cs =
+-- what hard and soft are both asked
+abbrev pub clause-questions : State → ℕ → List ℕ → List Question
+clause-questions s p cs =
     asks 1 (ledger-long s) ∷ asks 2 (is-filling (s .bench .phase)) ∷ asks 4 (clause-fits (s .bench .n) (s .shelf) cs) ∷ asks 5 (none cs || vacant (s .shelf) p) ∷ []
 
 abbrev pub marked : Case → Case
 marked b = record { phase = b .phase; n = b .n; current = b .current; total = b .total; proved = b .proved; impossible = true; shown = b .shown }
 
 abbrev pub hard-done : State → ℕ → List ℕ → State
-hard-done s p [] = with-bench s (marked (s .bench))
-hard-done s p (c ∷ cs) = placed s p (c ∷ cs) hard
+hard-done s p cs = cond (none cs) (with-bench s (marked (s .bench))) (placed s p cs hard)
 
 unfoldable pub hard-does : Scale → State → ℕ → List ℕ → Outcome
-hard-does k s p cs = outcome (first-no (hard-questions s p cs)) s (grants (hard-done s p cs))
+hard-does k s p cs = outcome (first-no (clause-questions s p cs)) s (grants (hard-done s p cs))
 
 -- soft: a clause with an amount; an empty one adds to the proved cost and uses no
 -- place. While filling the proved cost never passes the total, so the last reply
@@ -78,20 +78,20 @@ hard-does k s p cs = outcome (first-no (hard-questions s p cs)) s (grants (hard-
 -- state has an answer.
 
 abbrev pub proved-news : Case → List ℤ → List ℕ → List (List ℤ)
-proved-news b xs [] = plus (b .proved) xs ∷ []
-proved-news b xs (c ∷ cs) = []
+proved-news b xs cs = cond (none cs) (plus (b .proved) xs ∷ []) []
 
 abbrev pub soft-questions : Scale → State → ℕ → List ℤ → List ℕ → List Question
 soft-questions k s p xs cs =
-    asks 1 (ledger-long s) ∷ asks 2 (is-filling (s .bench .phase)) ∷ asks 4 (clause-fits (s .bench .n) (s .shelf) cs) ∷ asks 5 (none cs || vacant (s .shelf) p)
-    ∷ asks 6 (amount-fits k (s .bench .total) xs) ∷ record { number = 13; reply = reach-reply k (proved-news (s .bench) xs cs) } ∷ []
+    clause-questions s p cs ++ (asks 6 (amount-fits k (s .bench .total) xs) ∷ record { number = 13; reply = reach-reply k (proved-news (s .bench) xs cs) } ∷ [])
 
 abbrev pub with-sums : Case → List ℤ → List ℤ → Case
 with-sums b t z = record { phase = b .phase; n = b .n; current = b .current; total = t; proved = z; impossible = b .impossible; shown = b .shown }
 
 abbrev pub soft-done : State → ℕ → List ℤ → List ℕ → State
-soft-done s p xs [] = with-bench s (with-sums (s .bench) (plus (s .bench .total) xs) (plus (s .bench .proved) xs))
-soft-done s p xs (c ∷ cs) = placed (with-bench s (with-sums (s .bench) (plus (s .bench .total) xs) (s .bench .proved))) p (c ∷ cs) (soft xs)
+soft-done s p xs cs =
+    cond (none cs)
+    (with-bench s (with-sums (s .bench) (plus (s .bench .total) xs) (plus (s .bench .proved) xs)))
+    (placed (with-bench s (with-sums (s .bench) (plus (s .bench .total) xs) (s .bench .proved))) p cs (soft xs))
 
 unfoldable pub soft-does : Scale → State → ℕ → List ℤ → List ℕ → Outcome
 soft-does k s p xs cs = outcome (first-no (soft-questions k s p xs cs)) s (grants (soft-done s p xs cs))

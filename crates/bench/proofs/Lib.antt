@@ -1,0 +1,2 @@
+pub mod Doing
+pub mod Clausing

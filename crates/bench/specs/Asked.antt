@@ -1,0 +1,40 @@
+-- What the questions of a call came to, before anything is changed.
+--
+--   verdict-told   the rules' verdict of a result
+--   clause-told    the codes that were copied, where a clause fits
+--   Asked-X        the verdict is that of X's questions, and what was worked out on
+--                  the way is what the rules' effect needs
+use mathlib.Core.Bool.{cond}
+use mathlib.Core.List.{List}
+use mathlib.Core.Path.{_≡_}
+use Prim.Native.Nat.{ℕ}
+use lib.IntN.{ℤ}
+use lib.ListN.{take}
+use Rattle.std.specs.declared.option.Option.{Option}
+use Rattle.std.specs.declared.option.Option.the-variants.{Some, None}
+use Rattle.std.specs.declared.result.Result.{Result}
+use Rattle.std.specs.declared.result.Result.the-variants.{Ok, Err}
+use Rattle.rules.specs.Cells.{Cell}
+use Rattle.rules.specs.Questions.{Verdict, passes, stops}
+use Rattle.shelf.specs.View.{View}
+use Rattle.bench.specs.declared.fault.Fault.{Fault}
+use Rattle.bench.specs.Faults.{number-of, tier-of}
+
+abbrev pub verdict-told : {X : Type 0} → Result X Fault → Verdict
+verdict-told (Ok x) = passes
+verdict-told (Err e) = stops (number-of e) (tier-of e)
+
+abbrev pub clause-told : List ℕ → Option ℕ → Option (List ℕ)
+clause-told out None = None
+clause-told out (Some n) = Some (take n out)
+
+-- on a grant, the front of `out` is the clause
+abbrev pub Copied : List ℕ → List ℕ → Result ℕ Fault → Type 0
+Copied out cs (Ok n) = take n out ≡ cs
+Copied out cs (Err e) = Unit {0}
+
+-- shelf in order after, what it means, and the cells
+pub record Put (fine-after : Type 0) (v v-told : View) (cs cs-told : List Cell) : Type 0 where
+  pub fine : fine-after
+  pub view : v ≡ v-told
+  pub cells : cs ≡ cs-told

@@ -1,0 +1,41 @@
+// Why the bench refuses a call: a case for each question that can be denied.
+use cost::tier::Tier;
+use cost::tier::TierDebug;
+use cost::tier::TierPartialEq;
+
+pub mod numbers;
+
+#[derive(Clone, Copy, PartialEq, Eq, Debug)]
+pub enum Fault {
+    // The ledger has not a cell for each place.
+    LedgerTooShort,
+    // The state does not fit the call.
+    WrongPhase,
+    // More variables than the shelf's highest.
+    TooManyVariables,
+    // The clause's variables do not rise, or are not 1 to n, or are too many.
+    ClauseUnfit,
+    // The place is not there, or not free.
+    PlaceUnfit,
+    // The figures are not one for each tier from 0 to the reach, or all 0, or take
+    // the total out of reach.
+    AmountUnfit,
+    // The strip has not exactly n bytes, each 0 or 1.
+    StripUnfit,
+    // The plan leaves a hard clause unmet, or the impossible mark is set.
+    HardClauseUnmet,
+    // A source place is not there, or free.
+    SourceUnfit,
+    // Place i has not the variable, or place j not its opposite.
+    LiteralMissing,
+    // A result has more literals than a place may have.
+    ResultTooLong,
+    // A place that a result would take is not there, or not free.
+    NoRoom,
+    // A new amount is out of reach, first at this tier, as the cost kind told it.
+    OutOfReach(Tier),
+    // No plan has been shown.
+    NoPlanShown,
+    // The proved cost is not the shown plan's.
+    CostsDiffer,
+}
