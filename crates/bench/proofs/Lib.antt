@@ -1,2 +1,4 @@
+pub mod Verdicts
 pub mod Doing
 pub mod Clausing
+pub mod Softly

@@ -14,9 +14,12 @@ use Rattle.std.specs.declared.option.Option.{Option}
 use Rattle.std.specs.declared.option.Option.the-variants.{Some, None}
 use Rattle.std.specs.declared.result.Result.{Result}
 use Rattle.std.specs.declared.result.Result.the-variants.{Ok, Err}
-use Rattle.rules.specs.Cells.{Cell}
+use Rattle.cost.specs.Figures.{plus}
+use Rattle.rules.specs.Cells.{Cell, soft, paid}
 use Rattle.rules.specs.Questions.{Verdict, passes, stops}
+use Rattle.shelf.specs.Literals.{none}
 use Rattle.shelf.specs.View.{View}
+use Rattle.bench.specs.declared.case.accepted.Accepted.{Accepted}
 use Rattle.bench.specs.declared.fault.Fault.{Fault}
 use Rattle.bench.specs.Faults.{number-of, tier-of}
 
@@ -38,3 +41,14 @@ pub record Put (fine-after : Type 0) (v v-told : View) (cs cs-told : List Cell) 
   pub fine : fine-after
   pub view : v ≡ v-told
   pub cells : cs ≡ cs-told
+
+-- on a grant, what a soft clause comes to, by exact figures
+pub record Soft-taken {A : Type 0} (f : A → List ℤ) (out cs : List ℕ) (xs total proved : List ℤ) (a : Accepted A) : Type 0 where
+  pub copied : take (a .count) out ≡ cs
+  pub amount-is : f (a .amount) ≡ xs
+  pub total-is : f (a .total) ≡ plus total xs
+  pub proved-is : f (a .proved) ≡ paid (none cs) (soft xs) proved
+
+abbrev pub Accepts : {A : Type 0} → (A → List ℤ) → List ℕ → List ℕ → List ℤ → List ℤ → List ℤ → Result (Accepted A) Fault → Type 0
+Accepts f out cs xs total proved (Ok a) = Soft-taken f out cs xs total proved a
+Accepts f out cs xs total proved (Err e) = Unit {0}

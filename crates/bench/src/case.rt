@@ -2,6 +2,7 @@
 // see the private fields.
 use cost::kind::CostKind;
 
+pub mod accepted;
 pub mod asking;
 pub mod filling;
 

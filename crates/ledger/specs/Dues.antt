@@ -14,7 +14,6 @@ use Rattle.std.specs.declared.result.Result.the-variants.{Ok, Err}
 use Rattle.cost.specs.declared.tier.Tier.{Tier}
 use Rattle.rules.specs.Cells as rules
 use Rattle.rules.specs.Questions.{Reply, affirmed, denied, beyond-tier}
-use Rattle.rules.specs.Steps.{paid}
 use Rattle.ledger.specs.declared.cell.Cell.{Cell}
 use Rattle.ledger.specs.declared.weighed.Weighed.{Weighed}
 use Rattle.ledger.specs.Meaning.{cell-of}
@@ -33,7 +32,7 @@ pub record Dues : Type 0 where
 abbrev pub dues : Bool → rules.Cell → rules.Cell → List ℤ → Dues
 dues e a b z =
     let m = rules.smaller a b in
-    record { common = m; left-at-i = rules.less a m; left-at-j = rules.less b m; proved = paid e m z }
+    record { common = m; left-at-i = rules.less a m; left-at-j = rules.less b m; proved = rules.paid e m z }
 
 abbrev pub dues-of : {A : Type 0} → (A → List ℤ) → Weighed A → Dues
 dues-of f w = record { common = cell-of f (w .common); left-at-i = cell-of f (w .«left_i»); left-at-j = cell-of f (w .«left_j»); proved = f (w .proved) }

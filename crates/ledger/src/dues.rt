@@ -1,9 +1,9 @@
 // The amounts of a resolve. A fault of the cost kind is handed on as it was told.
 ghost use mathlib.Core.Path.{_≡_};
 ghost use Rattle.cost.specs.Kinds.{Kind, meant};
-ghost use Rattle.rules.specs.Cells.{less as less-of};
+ghost use Rattle.rules.specs.Cells.{less as less-of, paid as paid-of, paid-news};
 ghost use Rattle.rules.specs.Questions.{reach-reply};
-ghost use Rattle.rules.specs.Steps.{remainders, paid as paid-of, paid-news, resolve-news};
+ghost use Rattle.rules.specs.Steps.{remainders, resolve-news};
 ghost use Rattle.ledger.specs.Dues.{told-by, dues, cell-told, dues-told};
 ghost use Rattle.ledger.specs.Meaning.{cell-of};
 use crate::cell::Cell;
@@ -28,8 +28,8 @@ fn less<K: CostKind>(a: Cell<K::Amount>, m: Cell<K::Amount>) -> Result<Cell<K::A
     }
 }
 
-// The proved cost with m, where a result is empty.
-fn paid<K: CostKind>(proved: K::Amount, empty: bool, m: Cell<K::Amount>) -> Result<K::Amount, Tier>
+// The proved cost with m, where there is an empty clause with the cell m.
+pub fn paid<K: CostKind>(proved: K::Amount, empty: bool, m: Cell<K::Amount>) -> Result<K::Amount, Tier>
     ensures { λ r. ⌜ meant (kind .figures) r ≡ told-by (reach-reply (kind .scale) (paid-news empty (cell-of (kind .figures) m) (kind .figures proved))) (paid-of empty (cell-of (kind .figures) m) (kind .figures proved)) ⌝ }
 {
     if !empty {

@@ -21,7 +21,7 @@ use Rattle.shelf.specs.View.{View, with-held, emptied}
 use Rattle.cost.specs.Figures.{zeros, plus, order}
 use Rattle.cost.specs.Reach.{Scale, in-reach}
 use Rattle.rules.specs.Clauses.{rises}
-use Rattle.rules.specs.Cells.{Cell, hard, soft}
+use Rattle.rules.specs.Cells.{Cell, hard, soft, paid, paid-news}
 use Rattle.rules.specs.Case.{Case, State, sealed, opened-case, is-filling, known, with-phase}
 use Rattle.rules.specs.Questions.{Question, asks, reach-reply, first-no, Outcome, outcome, grants}
 
@@ -77,21 +77,17 @@ hard-does k s p cs = outcome (first-no (clause-questions s p cs)) s (grants (har
 -- is always affirmed in a case that was opened here; it is asked so that every
 -- state has an answer.
 
-abbrev pub proved-news : Case → List ℤ → List ℕ → List (List ℤ)
-proved-news b xs cs = cond (none cs) (plus (b .proved) xs ∷ []) []
-
 abbrev pub soft-questions : Scale → State → ℕ → List ℤ → List ℕ → List Question
 soft-questions k s p xs cs =
-    clause-questions s p cs ++ (asks 6 (amount-fits k (s .bench .total) xs) ∷ record { number = 13; reply = reach-reply k (proved-news (s .bench) xs cs) } ∷ [])
+    clause-questions s p cs ++ (asks 6 (amount-fits k (s .bench .total) xs) ∷ record { number = 13; reply = reach-reply k (paid-news (none cs) (soft xs) (s .bench .proved)) } ∷ [])
 
 abbrev pub with-sums : Case → List ℤ → List ℤ → Case
 with-sums b t z = record { phase = b .phase; n = b .n; current = b .current; total = t; proved = z; impossible = b .impossible; shown = b .shown }
 
 abbrev pub soft-done : State → ℕ → List ℤ → List ℕ → State
 soft-done s p xs cs =
-    cond (none cs)
-    (with-bench s (with-sums (s .bench) (plus (s .bench .total) xs) (plus (s .bench .proved) xs)))
-    (placed (with-bench s (with-sums (s .bench) (plus (s .bench .total) xs) (s .bench .proved))) p cs (soft xs))
+    let given = with-bench s (with-sums (s .bench) (plus (s .bench .total) xs) (paid (none cs) (soft xs) (s .bench .proved))) in
+    cond (none cs) given (placed given p cs (soft xs))
 
 unfoldable pub soft-does : Scale → State → ℕ → List ℤ → List ℕ → Outcome
 soft-does k s p xs cs = outcome (first-no (soft-questions k s p xs cs)) s (grants (soft-done s p xs cs))

@@ -22,7 +22,7 @@ use Rattle.shelf.specs.View.{View, clause, with-held}
 use Rattle.cost.specs.Figures.{zeros, plus, minus, order}
 use Rattle.cost.specs.Reach.{Scale}
 use Rattle.rules.specs.Clauses.{rises, same-codes}
-use Rattle.rules.specs.Cells.{Cell, hard, soft, is-hard, smaller, less, joined, is-nothing}
+use Rattle.rules.specs.Cells.{Cell, hard, soft, is-hard, smaller, less, joined, is-nothing, paid, paid-news}
 use Rattle.rules.specs.Case.{Case, State, working, takes-steps, cell-at, known, with-phase}
 use Rattle.rules.specs.Questions.{Question, asks, reach-reply, first-no, Outcome, outcome, grants}
 use Rattle.rules.specs.Filling.{ledger-long, with-bench}
@@ -93,17 +93,6 @@ abbrev pub remainders : Cell → Cell → List (List ℤ)
 remainders hard m = []
 remainders (soft a) hard = []
 remainders (soft a) (soft m) = minus a m ∷ []
-
--- what an empty result with the cell m makes of the proved cost z
-abbrev pub paid : Bool → Cell → List ℤ → List ℤ
-paid false m z = z
-paid true hard z = z
-paid true (soft a) z = plus z a
-
-abbrev pub paid-news : Bool → Cell → List ℤ → List (List ℤ)
-paid-news false m z = []
-paid-news true hard z = []
-paid-news true (soft a) z = plus z a ∷ []
 
 -- the results of resolving places i and j on the variable x
 abbrev pub results-at : Scale → State → ℕ → ℕ → ℕ → List (List ℕ)

@@ -9,22 +9,26 @@ ghost use Rattle.cost.specs.Kinds.{Kind};
 ghost use Rattle.ledger.specs.Meaning.{cell-of, cells-of};
 ghost use Rattle.ledger.specs.declared.cell.Cell.the-variants.{Soft as SoftCell};
 ghost use Rattle.rules.specs.Case.{idle-case};
-ghost use Rattle.rules.specs.Filling.{open-questions, open-does, clause-questions, hard-does, seal-questions, seal-does};
+ghost use Rattle.rules.specs.Filling.{open-questions, open-does, clause-questions, hard-does, soft-questions, soft-does, seal-questions, seal-does};
 ghost use Rattle.rules.specs.Questions.{first-no};
 ghost use Rattle.shelf.specs.Room.{Writable};
 ghost use Rattle.shelf.specs.View.{with-held};
-ghost use Rattle.bench.specs.Asked.{verdict-told, Copied, Put};
+ghost use Rattle.bench.specs.Asked.{verdict-told, Copied, Put, Accepts};
 ghost use Rattle.bench.specs.Meaning.{case-of, state-of, granted-told, Done, If-refused, If-granted};
 use crate::case::Bench;
 use crate::case::Phase;
+use crate::case::accepted::Accepted;
 use crate::case::asking::is_filling;
 use crate::case::asking::ledger_is_long_enough;
 use crate::case::asking::take_clause;
 use crate::fault::Fault;
+use crate::fault::numbers::FaultFromTier;
 use cost::kind::CostKind;
+use ledger::amounts::take_amount;
 use ledger::cell::Cell;
 use ledger::cells::clear;
 use ledger::cells::write_cell;
+use ledger::dues::paid;
 use shelf::literal::Literal;
 use shelf::places::is_vacant;
 use shelf::places::wipe_all;
@@ -125,6 +129,39 @@ impl<K: CostKind> Bench<K> {
             self.impossible = true;
         } else {
             put_clause::<K, S>(shelf, ledger, place, &codes[..count], Cell::Hard);
+        }
+        Ok(())
+    }
+
+    fn ask_soft<S: Shelf>(&self, shelf: &S, ledger: &[Cell<K::Row>], place: usize, figures: &[i64], clause: &[Literal], out: &mut [u32; 255]) -> Result<Accepted<K::Amount>, Fault>
+        ensures low { λ r. ⌜ made r (λ a. a .count ≤ 255) ⌝ }
+        ensures is { λ r. ⌜ (S·Shelf .fine (now (shelf .entry)) → verdict-told r ≡ first-no (soft-questions (K·CostKind .kind .scale) (state-of (K·CostKind .kind) (now (self .entry)) (S·Shelf .view (now (shelf .entry))) (now (ledger .entry))) place (now (figures .entry)) (codes-of (now (clause .entry))))) ⌝ }
+        ensures accepted { λ r. ⌜ (S·Shelf .fine (now (shelf .entry)) → Accepts (K·CostKind .kind .figures) (now (out .exit)) (codes-of (now (clause .entry))) (now (figures .entry)) (K·CostKind .kind .figures (now (self .entry) .total)) (K·CostKind .kind .figures (now (self .entry) .proved)) r) ⌝ }
+    {
+        let count = self.ask_clause(shelf, ledger, place, clause, out)?;
+        match take_amount::<K>(figures, self.total) {
+            None => Err(Fault::AmountUnfit),
+            Some(taken) => {
+                let amount = taken.0;
+                let total = taken.1;
+                let proved = paid::<K>(self.proved, clause.len() == 0, Cell::Soft(amount))?;
+                Ok(Accepted { count, amount, total, proved })
+            }
+        }
+    }
+
+    // Gives a clause with an amount, by its figures. An empty one adds its amount to
+    // the proved cost and uses no place.
+    pub fn soft<S: Shelf>(&mut self, shelf: &mut S, ledger: &mut [Cell<K::Row>], place: usize, figures: &[i64], clause: &[Literal]) -> Result<(), Fault>
+        ensures did { λ r. ⌜ (S·Shelf .fine (now (shelf .entry)) → Done (S·Shelf .fine (now (shelf .exit))) (granted-told r) (state-of (K·CostKind .kind) (now (self .exit)) (S·Shelf .view (now (shelf .exit))) (now (ledger .exit))) (soft-does (K·CostKind .kind .scale) (state-of (K·CostKind .kind) (now (self .entry)) (S·Shelf .view (now (shelf .entry))) (now (ledger .entry))) place (now (figures .entry)) (codes-of (now (clause .entry))))) ⌝ }
+        ensures refused { λ r. ⌜ If-refused r ((now (self .exit) ≡ now (self .entry)) × (now (shelf .exit) ≡ now (shelf .entry)) × (now (ledger .exit) ≡ now (ledger .entry))) ⌝ }
+    {
+        let mut codes = [0u32; 255];
+        let accepted = self.ask_soft(shelf, ledger, place, figures, clause, &mut codes)?;
+        self.total = accepted.total;
+        self.proved = accepted.proved;
+        if clause.len() != 0 {
+            put_clause::<K, S>(shelf, ledger, place, &codes[..accepted.count], Cell::Soft(accepted.amount));
         }
         Ok(())
     }
