@@ -2,3 +2,4 @@ pub mod Verdicts
 pub mod Doing
 pub mod Clausing
 pub mod Softly
+pub mod Shows

@@ -49,3 +49,10 @@ test-none false x h = refl
 pub test-some : {X : Type 0} (b : Bool) (x y : X) → Some y ≡ cond b (Some x) None → (b ≡ true) × (y ≡ x)
 test-some true x y h = (refl, cc)
 test-some false x y h = (cc, cc)
+
+-- one question more in front
+pub yes : (q : ℕ) (b : Bool) (v : Verdict) → b ≡ true → v ≡ after-reply q (reply-of b) v
+yes q b v e = ap (λ (x : Bool). after-reply q (reply-of x) v) (sym e)
+
+pub no-at : (q : ℕ) (b : Bool) (v : Verdict) → b ≡ false → stops q 0 ≡ after-reply q (reply-of b) v
+no-at q b v e = ap (λ (x : Bool). after-reply q (reply-of x) v) (sym e)

@@ -9,7 +9,7 @@ use mathlib.Core.List.{List}
 use mathlib.Core.Path.{_≡_}
 use Prim.Native.Nat.{ℕ}
 use lib.IntN.{ℤ}
-use lib.ListN.{take}
+use lib.ListN.{length, take}
 use Rattle.std.specs.declared.option.Option.{Option}
 use Rattle.std.specs.declared.option.Option.the-variants.{Some, None}
 use Rattle.std.specs.declared.result.Result.{Result}
@@ -17,6 +17,7 @@ use Rattle.std.specs.declared.result.Result.the-variants.{Ok, Err}
 use Rattle.cost.specs.Figures.{plus}
 use Rattle.rules.specs.Cells.{Cell, soft, paid}
 use Rattle.rules.specs.Questions.{Verdict, passes, stops}
+use Rattle.rules.specs.Showing.{summed}
 use Rattle.shelf.specs.Literals.{none}
 use Rattle.shelf.specs.View.{View}
 use Rattle.bench.specs.declared.case.accepted.Accepted.{Accepted}
@@ -52,3 +53,12 @@ pub record Soft-taken {A : Type 0} (f : A → List ℤ) (out cs : List ℕ) (xs 
 abbrev pub Accepts : {A : Type 0} → (A → List ℤ) → List ℕ → List ℕ → List ℤ → List ℤ → List ℤ → Result (Accepted A) Fault → Type 0
 Accepts f out cs xs total proved (Ok a) = Soft-taken f out cs xs total proved a
 Accepts f out cs xs total proved (Err e) = Unit {0}
+
+-- on a grant, the shown plan's cost and how many soft clauses it leaves unmet
+pub record Bill-of {A : Type 0} (f : A → List ℤ) (z : List ℤ) (os : List (List ℤ)) (p : A × ℕ) : Type 0 where
+  pub cost-is : f (p .0) ≡ summed z os
+  pub count-is : p .1 ≡ length os
+
+abbrev pub Bills : {A : Type 0} → (A → List ℤ) → List ℤ → List (List ℤ) → Result (A × ℕ) Fault → Type 0
+Bills f z os (Ok p) = Bill-of f z os p
+Bills f z os (Err e) = Unit {0}

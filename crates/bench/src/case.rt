@@ -4,7 +4,9 @@ use cost::kind::CostKind;
 
 pub mod accepted;
 pub mod asking;
+pub mod claiming;
 pub mod filling;
+pub mod showing;
 
 // Where a case is.
 #[derive(Clone, Copy, PartialEq, Eq, Debug)]
