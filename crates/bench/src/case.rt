@@ -6,6 +6,8 @@ pub mod accepted;
 pub mod asking;
 pub mod claiming;
 pub mod filling;
+pub mod resolution;
+pub mod resolving;
 pub mod showing;
 
 // Where a case is.

@@ -3,7 +3,7 @@
 use mathlib.Core.Path.{_≡_, refl, sym, _∙_, ap}
 use mathlib.Core.Bool.{Bool, true, false, _||_}
 use mathlib.Core.List.{List, [], _∷_}
-use Prim.Native.Nat.{ℕ, _+_, _-_, _*_, _/_, _%_, _<_, _≤_}
+use Prim.Native.Nat.{ℕ, _+_, _-_, _<_, _≤_}
 use native.Mathlib.Omega.{arith}
 use lib.Dec.{eqb}
 use lib.ListN.{length, getD, drop}
@@ -12,6 +12,7 @@ use Rattle.std.proofs.shelf.Tests.{eq-eqb, ne-eqb, or-from, or-left}
 use Rattle.shelf.specs.Literals.{opposite, among}
 use Rattle.rules.specs.Clauses.{vanishes}
 use Rattle.results.specs.Spread.{Spread}
+use Rattle.results.proofs.Shapes.{spread-less}
 
 -- what is below the first code does not stand in the list
 pub absent : (top b c : ℕ) (cs : List ℕ) → Spread top b cs → c < b → among c cs ≡ false
@@ -37,14 +38,10 @@ pub record Clashing (top : ℕ) (codes : List ℕ) (last k : ℕ) : Type 0 where
   pub spread : Spread top (last + 1) (drop k codes)
   pub is : vanishes (last ∷ drop k codes) ≡ vanishes codes
 
-weaker : (top b c : ℕ) (cs : List ℕ) → Spread top b cs → c ≤ b → Spread top c cs
-weaker top b c [] s h = tt
-weaker top b c (d ∷ ds) s h = let l = s .0 in (omega arith, s .1, s .2)
-
 pub clash-begun : (top : ℕ) (codes : List ℕ) → Spread top 2 codes → Clashing top codes 0 0
 unfolding vanishes
 clash-begun top codes s =
-    record { spread = weaker top 2 1 codes s (omega arith); is = ap (λ (t : Bool). t || vanishes codes) (absent top 2 1 codes s (omega arith)) }
+    record { spread = spread-less top 2 1 codes s (omega arith); is = ap (λ (t : Bool). t || vanishes codes) (absent top 2 1 codes s (omega arith)) }
 
 pub clash-more : {top : ℕ} {codes : List ℕ} {last k : ℕ} → Clashing top codes last k → k < length codes → (getD codes k 0 ≡ opposite last → ⊥) → Clashing top codes (getD codes k 0) (k + 1)
 clash-more {top = top} {codes = codes} {last = last} {k = k} i h ne =

@@ -1,4 +1,5 @@
--- Results laid one by one. Assumes nothing.
+-- Results placed one by one: what is placed so far and what is still to be placed
+-- make up the whole, and the room that is left is that for the rest.
 use mathlib.Core.Path.{_≡_, refl, sym, _∙_, ap, subst}
 use mathlib.Core.Bool.{Bool, true, false, cond, _||_, _&&_}
 use mathlib.Core.List.{List, [], _∷_, _++_, map, map-append}
@@ -6,8 +7,8 @@ use Prim.Native.Nat.{ℕ, zero, suc, _+_, _-_, _<_, _≤_}
 use native.Mathlib.Omega.{arith}
 use lib.Dec.{leb, ltb}
 use lib.ListN.{length, getD, set, drop}
-use Rattle.std.proofs.shelf.Lists.{drop-more, drop-all, getD-set-other, length-append, length-map, set-past}
-use Rattle.std.proofs.shelf.Tests.{leb-true, ltb-true, and-parts, and-from, or-cases, or-from, false≢true}
+use Rattle.std.proofs.shelf.Lists.{drop-more, drop-all, getD-set-other, length-append, length-map}
+use Rattle.std.proofs.shelf.Tests.{leb-true, ltb-true, and-parts, and-from, or-from}
 use Rattle.shelf.specs.Literals.{none}
 use Rattle.shelf.specs.View.{View, clause, with-held}
 use Rattle.shelf.specs.Room.{vacant, roomy, Writable}
@@ -17,21 +18,21 @@ use Rattle.results.specs.Spread.{Spread, All-spread}
 use Rattle.results.specs.Placing.{Placeable, after-placing}
 use Rattle.results.proofs.Shapes.{rising-from}
 
-pub kept-skip : (r : List ℕ) (rs : List (List ℕ)) → vanishes r ≡ true → kept (r ∷ rs) ≡ kept rs
+pub kept-vanishing : (r : List ℕ) → vanishes r ≡ true → kept (r ∷ []) ≡ []
 unfolding kept
-kept-skip r rs h = rw h
+kept-vanishing r h = rw h
 
-pub kept-empty : (r : List ℕ) (rs : List (List ℕ)) → r ≡ [] → kept (r ∷ rs) ≡ kept rs
+pub kept-empty : (r : List ℕ) → r ≡ [] → kept (r ∷ []) ≡ []
 unfolding kept vanishes
-kept-empty r rs h = rw h
+kept-empty r h = rw h
 
-empty-not : (cs : List ℕ) → (length cs ≡ 0 → ⊥) → none cs ≡ false
-empty-not [] h = elim (h refl) [ ]
-empty-not (c ∷ cs) h = refl
+none-not : (cs : List ℕ) → (length cs ≡ 0 → ⊥) → none cs ≡ false
+none-not [] h = elim (h refl) [ ]
+none-not (c ∷ cs) h = refl
 
-pub kept-here : (r : List ℕ) (rs : List (List ℕ)) → vanishes r ≡ false → (length r ≡ 0 → ⊥) → kept (r ∷ rs) ≡ r ∷ kept rs
+pub kept-alone : (r : List ℕ) → vanishes r ≡ false → (length r ≡ 0 → ⊥) → kept (r ∷ []) ≡ r ∷ []
 unfolding kept
-kept-here r rs h n = rw (or-from (vanishes r) (none r) h (empty-not r n))
+kept-alone r h n = rw (or-from (vanishes r) (none r) h (none-not r n))
 
 kept-one : (r : List ℕ) (rs : List (List ℕ)) → kept (r ∷ rs) ≡ kept (r ∷ []) ++ kept rs
 unfolding kept
@@ -105,9 +106,6 @@ pub record Laying {C : Type 0} (v w : View) (m : C) (rs : List (List ℕ)) (to :
   pub room : roomy w p (length (kept (drop t rs))) ≡ true
   pub fits : short-enough (v .longest) (drop t rs) ≡ true
 
-pub laying-begun : {C : Type 0} (v : View) (m : C) (rs : List (List ℕ)) (to : ℕ) (cs : List C) → Placeable v to rs → Laying v v m rs to cs cs to 0
-laying-begun v m rs to cs a = record { frame = refl; held = refl; cells = refl; room = a .room; fits = a .fits }
-
 module _ {C : Type 0} {v w : View} {m : C} {rs : List (List ℕ)} {to : ℕ} {cs₀ cs : List C} {p t : ℕ} (i : Laying v w m rs to cs₀ cs p t) (l : t < length rs) where
   split-kept : kept (drop t rs) ≡ kept (getD rs t [] ∷ []) ++ kept (drop (t + 1) rs)
   split-kept = ap kept (drop-more rs t [] l) ∙ kept-one (getD rs t []) (drop (t + 1) rs)
@@ -160,10 +158,6 @@ laying-done {v = v} {w = w} {m = m} {rs = rs} {to = to} {cs₀ = cs₀} {cs = cs
       i .frame ∙ ap (with-held v) (ap (λ (x : List (List ℕ)). laid p (kept x) (w .held)) (sym d) ∙ i .held),
       ap (λ (x : List (List ℕ)). laid p (alike m (kept x)) cs) (sym d) ∙ i .cells,
     )
-
-pub kept-none : kept [] ≡ []
-unfolding kept
-kept-none = refl
 
 pub there : (v : View) (p : ℕ) → vacant v p ≡ true → p < v .places
 there v p h = ltb-true p (v .places) (and-parts (ltb p (v .places)) (none (clause v p)) h .0)

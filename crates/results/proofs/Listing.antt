@@ -1,16 +1,16 @@
 -- The list of results by index, and that each of them is spread.
 use mathlib.Core.Path.{_≡_, refl, sym, _∙_, ap}
-use mathlib.Core.Bool.{Bool, true, false, cond, _||_}
+use mathlib.Core.Bool.{Bool, true, false, cond}
 use mathlib.Core.List.{List, [], _∷_, _++_}
 use Prim.Native.Nat.{ℕ, zero, suc, _+_, _-_, _<_, _≤_}
 use native.Mathlib.Omega.{arith}
-use lib.ListN.{length, getD, take, drop}
-use Rattle.std.proofs.shelf.Lists.{getD-append-left, getD-append-right, getD-past, length-append, take-rest}
-use Rattle.shelf.specs.Literals.{opposite, Rising}
-use Rattle.rules.specs.Clauses.{without, merge, turned, compensations, vanishes}
-use Rattle.rules.specs.Results.{where-soft, results, resolvents}
-use Rattle.results.specs.Spread.{Spread, All-spread}
-use Rattle.results.proofs.Shapes.{spread-first, merge-spread, compensations-spread, rising-without}
+use lib.ListN.{length, getD, drop}
+use Rattle.std.proofs.shelf.Lists.{getD-append-left, getD-append-right, getD-past, length-append}
+use Rattle.shelf.specs.Literals.{Rising}
+use Rattle.rules.specs.Clauses.{merge, turned, compensations}
+use Rattle.rules.specs.Results.{where-soft, results}
+use Rattle.results.specs.Spread.{All-spread}
+use Rattle.results.proofs.Shapes.{spread-first, merge-spread, compensations-spread}
 
 pub length-compensations : (c bs : List ℕ) → length (compensations c bs) ≡ length bs
 unfolding compensations
@@ -66,16 +66,19 @@ at-second p q a b wp wq k h l =
 pub at-none : (p q a b : List ℕ) (wp wq : Bool) (t : ℕ) → 1 + cond wp (length b) 0 + cond wq (length a) 0 ≤ t → getD (results p q a b wp wq) t [] ≡ []
 at-none p q a b wp wq t h = let l = length-results p q a b wp wq in getD-past (results p q a b wp wq) t [] (omega arith)
 
--- the same as the code asks
+-- the same as the code asks, with the number of compensations of the first parent f,
+-- and of the second g
+pub wanted-length : {b′ b : List ℕ} {n : ℕ} (w : Bool) → b′ ≡ b → n ≡ cond w (length b′) 0 → n ≡ cond w (length b) 0
+wanted-length w e h = h ∙ ap (λ (l : List ℕ). cond w (length l) 0) e
+
 pub first-at : (p q a b : List ℕ) (wp wq : Bool) (t f : ℕ) → f ≡ cond wp (length b) 0 → (t ≡ 0 → ⊥) → t - 1 < f
-    → merge p (turned (take (length b - (t - 1)) (drop (t - 1) b))) ≡ getD (results p q a b wp wq) t []
+    → merge p (turned (drop (t - 1) b)) ≡ getD (results p q a b wp wq) t []
 first-at p q a b wp wq t f e n h =
     let i : t ≡ suc (t - 1) = omega arith in
-    ap (λ (l : List ℕ). merge p (turned l)) (take-rest b (t - 1)) ∙ sym (at-first p q a b wp wq (t - 1) (omega arith)) ∙ ap (λ (k : ℕ). getD (results p q a b wp wq) k []) (sym i)
+    sym (at-first p q a b wp wq (t - 1) (omega arith)) ∙ ap (λ (k : ℕ). getD (results p q a b wp wq) k []) (sym i)
 
 pub second-at : (p q a b : List ℕ) (wp wq : Bool) (t f g : ℕ) → f ≡ cond wp (length b) 0 → g ≡ cond wq (length a) 0 → (t ≡ 0 → ⊥) → f ≤ t - 1 → t - 1 - f < g
-    → merge q (turned (take (length a - (t - 1 - f)) (drop (t - 1 - f) a))) ≡ getD (results p q a b wp wq) t []
+    → merge q (turned (drop (t - 1 - f) a)) ≡ getD (results p q a b wp wq) t []
 second-at p q a b wp wq t f g e e₁ n h l =
     let i : t ≡ suc (t - 1) = omega arith in
-    let j : f ≡ cond wp (length b) 0 = e in
-    ap (λ (l : List ℕ). merge q (turned l)) (take-rest a (t - 1 - f)) ∙ ap (λ (m : ℕ). merge q (turned (drop (t - 1 - m) a))) e ∙ sym (at-second p q a b wp wq (t - 1) (omega arith) (omega arith)) ∙ ap (λ (k : ℕ). getD (results p q a b wp wq) k []) (sym i)
+    ap (λ (m : ℕ). merge q (turned (drop (t - 1 - m) a))) e ∙ sym (at-second p q a b wp wq (t - 1) (omega arith) (omega arith)) ∙ ap (λ (k : ℕ). getD (results p q a b wp wq) k []) (sym i)

@@ -1,13 +1,12 @@
 -- A merge and a filter, code by code: what is written so far and what is still to
 -- come make up the whole.
 use mathlib.Core.Path.{_≡_, refl, sym, _∙_, ap}
-use mathlib.Core.Bool.{Bool, true, false, cond}
+use mathlib.Core.Logic.{_⊎_, inl, inr}
 use mathlib.Core.List.{List, [], _∷_, _++_}
 use Prim.Native.Nat.{ℕ, _+_, _-_, _<_, _≤_}
 use native.Mathlib.Omega.{arith}
-use lib.Dec.{eqb, ltb}
 use lib.ListN.{length, getD, take, drop, set}
-use Rattle.std.proofs.shelf.Lists.{append-nil, append-assoc, take-more-set, drop-more, drop-all}
+use Rattle.std.proofs.shelf.Lists.{append-nil, append-assoc, take-more, take-more-set, take-rest, drop-more, drop-all, length-drop, nil-from-length}
 use Rattle.std.proofs.shelf.Tests.{lt-ltb, le-ltb, eq-eqb, ne-eqb}
 use Rattle.shelf.specs.Literals.{opposite}
 use Rattle.rules.specs.Clauses.{without, into, merge, turned}
@@ -68,40 +67,29 @@ module _ {x y out : List ℕ} {i j n : ℕ} (m : Merging x y out i j n) (room : 
       let l = m .low in
       record { low = omega arith; left = m .left; right = omega arith; is = onward out (merge (drop i x) (drop (j + 1) y)) n (getD y j 0) (omega arith) e (m .is) }
 
-  pub last-left : i < length x → length y ≤ j → Merging x y (set out n (getD x i 0)) (i + 1) j (n + 1)
-  last-left hi hj =
-      let e : merge (drop i x) (drop j y) ≡ getD x i 0 ∷ merge (drop (i + 1) x) (drop j y) =
-      rw (drop-all j y hj, merge-alone (drop i x), merge-alone (drop (i + 1) x)) (drop-more x i 0 hi) in
-      let l = m .low in
-      let r = m .right in
-      record { low = omega arith; left = omega arith; right = m .right; is = onward out (merge (drop (i + 1) x) (drop j y)) n (getD x i 0) (omega arith) e (m .is) }
+-- once one list is at its end, what is left of both is what is left of the other
+merge-ended : (as′ bs : List ℕ) → (length as′ ≡ 0) ⊎ (length bs ≡ 0) → merge as′ bs ≡ as′ ++ bs
+merge-ended as′ bs (inl h) = let e = nil-from-length as′ h in rw e (merge-none bs)
+merge-ended as′ bs (inr h) = let e = nil-from-length bs h in rw e (merge-alone as′ ∙ sym (append-nil as′))
 
-  pub last-right : length x ≤ i → j < length y → Merging x y (set out n (getD y j 0)) i (j + 1) (n + 1)
-  last-right hi hj =
-      let e : merge (drop i x) (drop j y) ≡ getD y j 0 ∷ merge (drop i x) (drop (j + 1) y) =
-      rw (drop-all i x hi, merge-none (drop j y), merge-none (drop (j + 1) y)) (drop-more y j 0 hj) in
-      let l = m .low in
-      let r = m .left in
-      record { low = omega arith; left = m .left; right = omega arith; is = onward out (merge (drop i x) (drop (j + 1) y)) n (getD y j 0) (omega arith) e (m .is) }
+pub merged : {x y out u w : List ℕ} {i j n : ℕ} → Merging x y out i j n → (length x ≤ i) ⊎ (length y ≤ j)
+    → u ≡ take n out ++ take (length x - i) (drop i x) → w ≡ u ++ take (length y - j) (drop j y) → w ≡ merge x y
+merged {x = x} {y = y} {out = out} {u = u} {w = w} {i = i} {j = j} {n = n} m d e f =
+    let l : (length (drop i x) ≡ 0) ⊎ (length (drop j y) ≡ 0) = elim d [ inl h ↦ inl (length-drop i x ∙ omega arith) | inr h ↦ inr (length-drop j y ∙ omega arith) ] in
+    f ∙ ap (λ (l : List ℕ). u ++ l) (take-rest y j) ∙ ap (λ (l : List ℕ). l ++ drop j y) (e ∙ ap (λ (l : List ℕ). take n out ++ l) (take-rest x i))
+    ∙ append-assoc (take n out) (drop i x) (drop j y) ∙ ap (λ (l : List ℕ). take n out ++ l) (sym (merge-ended (drop i x) (drop j y) l)) ∙ m .is
 
-  pub merged : length x ≤ i → length y ≤ j → (n ≤ length x + length y) × (take n out ≡ merge x y)
-  merged hi hj =
-      let e : merge (drop i x) (drop j y) ≡ [] = rw (drop-all i x hi, drop-all j y hj) (merge-none []) in
-      let l = m .low in
-      let l₁ = m .left in
-      let r = m .right in
-      (omega arith, sym (append-nil (take n out)) ∙ ap (λ (l : List ℕ). take n out ++ l) (sym e) ∙ m .is)
-
-pub begun : (x y out : List ℕ) → Merging x y out 0 0 0
-begun x y out = record { low = omega arith; left = omega arith; right = omega arith; is = refl }
+-- one code more behind the first n
+pub appended-more : (codes out₀ out : List ℕ) (n k i : ℕ) → take k out ≡ take n out₀ ++ take i codes → i < length codes → k < length out
+    → take (k + 1) (set out k (getD codes i 0)) ≡ take n out₀ ++ take (i + 1) codes
+appended-more codes out₀ out n k i h l r =
+    take-more-set out k (getD codes i 0) r ∙ ap (λ (z : List ℕ). z ++ getD codes i 0 ∷ []) h ∙ append-assoc (take n out₀) (take i codes) (getD codes i 0 ∷ [])
+    ∙ ap (λ (z : List ℕ). take n out₀ ++ z) (sym (take-more codes i 0 l))
 
 -- so far n codes of `out` are kept
 pub record Sifting (c : ℕ) (xs out : List ℕ) (k n : ℕ) : Type 0 where
   pub low : n ≤ k
   pub is : take n out ++ without c (drop k xs) ≡ without c xs
-
-pub sifted-begun : (c : ℕ) (xs out : List ℕ) → Sifting c xs out 0 0
-sifted-begun c xs out = record { low = omega arith; is = refl }
 
 pub keep-one : {c : ℕ} {xs out : List ℕ} {k n : ℕ} → Sifting c xs out k n → k < length xs → length xs ≤ length out → (c ≡ getD xs k 0 → ⊥) → Sifting c xs (set out n (getD xs k 0)) (k + 1) (n + 1)
 unfolding without

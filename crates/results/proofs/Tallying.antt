@@ -1,15 +1,14 @@
 -- Results counted one by one: what is counted so far and the tally of what is left
 -- make up the whole.
 use mathlib.Core.Path.{_≡_, refl, sym, _∙_, ap}
-use mathlib.Core.Bool.{Bool, true, false, cond, _||_, _&&_, or-true, or-false, and-true, and-assoc}
+use mathlib.Core.Bool.{Bool, true, false, _||_, _&&_, or-true, or-false, and-true, and-assoc}
 use mathlib.Core.List.{List, [], _∷_}
-use Prim.Native.Nat.{ℕ, suc, _+_, _<_, _≤_}
+use Prim.Native.Nat.{ℕ, _+_, _<_, _≤_}
 use native.Mathlib.Omega.{arith}
 use lib.Dec.{leb}
 use lib.ListN.{length, getD, drop}
 use Rattle.std.proofs.shelf.Lists.{drop-more, drop-all}
 use Rattle.std.proofs.shelf.Tests.{le-leb}
-use Rattle.shelf.specs.Literals.{none}
 use Rattle.rules.specs.Clauses.{vanishes}
 use Rattle.rules.specs.Results.{kept, short-enough, has-empty}
 use Rattle.results.specs.Counting.{tally-of, tally-one}

@@ -3,7 +3,7 @@
 --   tally-of L rs     the tally of the results rs, where a clause may have L
 --                     literals
 --   tally-one L r t   the tally t with the result r more
-use mathlib.Core.Bool.{Bool, true, cond, _&&_}
+use mathlib.Core.Bool.{true, cond, _&&_}
 use mathlib.Core.List.{List}
 use Prim.Native.Nat.{ℕ, _+_}
 use lib.Dec.{leb}

@@ -2,3 +2,4 @@ pub mod Spread
 pub mod Parents
 pub mod Counting
 pub mod Placing
+pub mod Resolving

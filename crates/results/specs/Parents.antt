@@ -1,20 +1,17 @@
 -- Two parents as the code holds them.
 --
---   listed ps   their results, in order
---   Small ps    no clause and no rest has more than 255 codes
+--   codes-of s   the codes of a clause in scratch memory
+--   listed ps    the results of the parents, in order
 use mathlib.Core.List.{List}
-use Prim.Native.Nat.{ℕ, _≤_}
-use denote.Ref.{now}
-use lib.ListN.{length}
+use Prim.Native.Nat.{ℕ}
+use lib.ListN.{take}
 use Rattle.rules.specs.Results.{results}
 use Rattle.results.specs.declared.parents.Parents.{Parents}
+use Rattle.results.specs.declared.scratch.Scratch.{Scratch}
+
+abbrev pub codes-of : Scratch → List ℕ
+codes-of s = take (s .count) (s .codes)
 
 abbrev pub listed : Parents → List (List ℕ)
 listed ps =
-    results (now (ps .first)) (now (ps .second)) (now (ps .«first_rest»)) (now (ps .«second_rest»)) (ps .«with_first») (ps .«with_second»)
-
-pub record Small (ps : Parents) : Type 0 where
-  pub first : length (now (ps .first)) ≤ 255
-  pub second : length (now (ps .second)) ≤ 255
-  pub first-rest : length (now (ps .«first_rest»)) ≤ 255
-  pub second-rest : length (now (ps .«second_rest»)) ≤ 255
+    results (codes-of (ps .first)) (codes-of (ps .second)) (codes-of (ps .«first_rest»)) (codes-of (ps .«second_rest»)) (ps .«with_first») (ps .«with_second»)

@@ -1,5 +1,6 @@
 // Clauses in scratch memory: slices of literal codes that rise. What is made of
 // them goes to the front of a slice `out`, and how many codes it has is returned.
+ghost use mathlib.Core.List.{_++_};
 ghost use mathlib.Core.Path.{_≡_};
 ghost use Prim.Native.Nat.{ℕ, _+_, _≤_};
 ghost use lib.ListN.{length, take};
@@ -31,6 +32,20 @@ pub(crate) fn without(codes: &[u32], code: u32, out: &mut [u32]) -> usize
     n
 }
 
+// Puts the codes behind the first n of `out`; how many there are then.
+fn append(codes: &[u32], out: &mut [u32], n: usize) -> usize
+    requires { ⌜ n + length (now codes) ≤ length (now out) ⌝ }
+    ensures count { λ r. ⌜ r ≡ n + length (now (codes .entry)) ⌝ }
+    ensures is { λ r. ⌜ take r (now (out .exit)) ≡ take n (now (out .entry)) ++ now (codes .entry) ⌝ }
+{
+    let mut k = n;
+    for c in codes {
+        out[k] = *c;
+        k += 1;
+    }
+    k
+}
+
 // The union of two rising lists.
 pub(crate) fn merge(x: &[u32], y: &[u32], out: &mut [u32]) -> usize
     requires { ⌜ length (now x) + length (now y) ≤ length (now out) ⌝ }
@@ -56,17 +71,8 @@ pub(crate) fn merge(x: &[u32], y: &[u32], out: &mut [u32]) -> usize
         }
         n += 1;
     }
-    while i < x.len() {
-        out[n] = x[i];
-        i += 1;
-        n += 1;
-    }
-    while j < y.len() {
-        out[n] = y[j];
-        j += 1;
-        n += 1;
-    }
-    n
+    let n = append(&x[i..], out, n);
+    append(&y[j..], out, n)
 }
 
 // The union of x with y, whose first literal is turned into its opposite.

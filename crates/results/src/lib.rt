@@ -6,4 +6,5 @@ mod codes;
 mod parents;
 mod placing;
 pub mod resolving;
+mod scratch;
 pub mod tallies;

@@ -2,19 +2,26 @@
 // is empty takes no place.
 ghost use mathlib.Core.List.{[], _∷_};
 ghost use mathlib.Core.Path.{_≡_};
-ghost use Prim.Native.Nat.{ℕ, _+_};
-ghost use lib.ListN.{length};
+ghost use Prim.Native.Nat.{_+_};
+ghost use lib.ListN.{length, set};
 ghost use Rattle.rules.specs.Results.{alike, kept, laid};
-ghost use Rattle.shelf.specs.View.{View};
-ghost use Rattle.results.specs.Parents.{listed, Small};
+ghost use Rattle.results.specs.Parents.{listed};
 ghost use Rattle.results.specs.Placing.{Laid, Placeable, after-placing};
 ghost use Rattle.results.specs.Spread.{All-spread, Spread};
 use crate::codes::clashes;
 use crate::parents::Parents;
-use crate::parents::count;
-use crate::parents::result;
 use shelf::places::write_codes;
 use shelf::store::Shelf;
+
+// Writes the cell m at a place, if there is one.
+fn write_cell<C: Copy>(cells: &mut [C], place: usize, m: C)
+    ensures { λ _. ⌜ now (cells .exit) ≡ set (now (cells .entry)) place m ⌝ }
+{
+    if place >= cells.len() {
+        return;
+    }
+    cells[place] = m;
+}
 
 // Puts one result into the place, if it takes one, with the cell m; the place for
 // the next.
@@ -25,7 +32,8 @@ fn place_one<S: Shelf, C: Copy>(
     place: usize,
     m: C,
 ) -> usize
-    ensures { λ r. ⌜ (S·Shelf .fine (now (shelf .entry)) → Spread (S·Shelf .view (now (shelf .entry)) .highest) 2 (now (codes .entry)) → Placeable (S·Shelf .view (now (shelf .entry))) place (now (codes .entry) ∷ []) → (r ≡ place + length (kept (now (codes .entry) ∷ []))) × Laid (S·Shelf .fine (now (shelf .exit))) (S·Shelf .view (now (shelf .exit))) (after-placing (S·Shelf .view (now (shelf .entry))) place (now (codes .entry) ∷ [])) (now (cells .exit)) (laid place (alike m (kept (now (codes .entry) ∷ []))) (now (cells .entry)))) ⌝ }
+    ensures next { λ r. ⌜ (fine (now (shelf .entry)) → Spread (view (now (shelf .entry)) .highest) 2 (now (codes .entry)) → Placeable (view (now (shelf .entry))) place (now (codes .entry) ∷ []) → r ≡ place + length (kept (now (codes .entry) ∷ []))) ⌝ }
+    ensures did { λ r. ⌜ (fine (now (shelf .entry)) → Spread (view (now (shelf .entry)) .highest) 2 (now (codes .entry)) → Placeable (view (now (shelf .entry))) place (now (codes .entry) ∷ []) → Laid (fine (now (shelf .exit))) (view (now (shelf .exit))) (after-placing (view (now (shelf .entry))) place (now (codes .entry) ∷ [])) (now (cells .exit)) (laid place (alike m (kept (now (codes .entry) ∷ []))) (now (cells .entry)))) ⌝ }
 {
     if codes.len() == 0 {
         return place;
@@ -37,9 +45,7 @@ fn place_one<S: Shelf, C: Copy>(
         return place;
     }
     write_codes(shelf, place, codes);
-    if place < cells.len() {
-        cells[place] = m;
-    }
+    write_cell(cells, place, m);
     place + 1
 }
 
@@ -47,18 +53,17 @@ fn place_one<S: Shelf, C: Copy>(
 pub(crate) fn place_all<S: Shelf, C: Copy>(
     shelf: &mut S,
     cells: &mut [C],
-    ps: Parents,
+    ps: &Parents,
     to: usize,
     m: C,
 )
-    requires { ⌜ Small ps ⌝ }
-    ensures { λ _. ⌜ (S·Shelf .fine (now (shelf .entry)) → All-spread (S·Shelf .view (now (shelf .entry)) .highest) (listed (ps .entry)) → Placeable (S·Shelf .view (now (shelf .entry))) to (listed (ps .entry)) → Laid (S·Shelf .fine (now (shelf .exit))) (S·Shelf .view (now (shelf .exit))) (after-placing (S·Shelf .view (now (shelf .entry))) to (listed (ps .entry))) (now (cells .exit)) (laid to (alike m (kept (listed (ps .entry)))) (now (cells .entry)))) ⌝ }
+    ensures { λ _. ⌜ (fine (now (shelf .entry)) → All-spread (view (now (shelf .entry)) .highest) (listed (now (ps .entry))) → Placeable (view (now (shelf .entry))) to (listed (now (ps .entry))) → Laid (fine (now (shelf .exit))) (view (now (shelf .exit))) (after-placing (view (now (shelf .entry))) to (listed (now (ps .entry)))) (now (cells .exit)) (laid to (alike m (kept (listed (now (ps .entry))))) (now (cells .entry)))) ⌝ }
 {
     let mut out = [0u32; 510];
     let mut place = to;
-    let n = count(ps);
+    let n = ps.count();
     for t in 0..n {
-        let len = result(ps, t, &mut out);
+        let len = ps.result(t, &mut out);
         place = place_one(shelf, cells, &out[..len], place, m);
     }
 }

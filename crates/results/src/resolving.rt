@@ -1,19 +1,68 @@
 // The resolving of two places of a shelf: its results counted, or placed. Both
 // read the clauses first, so that nothing that is placed alters a parent.
 ghost use mathlib.Core.Path.{_≡_};
-ghost use Prim.Native.Nat.{_*_, _≤_};
-ghost use Rattle.rules.specs.Results.{alike, kept, laid, resolvents};
-ghost use Rattle.shelf.specs.View.{View, clause};
+ghost use Prim.Native.Nat.{_≤_};
+ghost use Rattle.rules.specs.Clauses.{without as left-without};
+ghost use Rattle.rules.specs.Results.{alike, kept, laid};
+ghost use Rattle.shelf.specs.View.{clause};
 ghost use Rattle.results.specs.Counting.{tally-of};
+ghost use Rattle.results.specs.Parents.{codes-of, listed};
 ghost use Rattle.results.specs.Placing.{Laid, Placeable, after-placing};
+ghost use Rattle.results.specs.Resolving.{resolvents-at};
+ghost use Rattle.results.specs.Spread.{All-spread};
 use crate::codes::without;
 use crate::parents::Parents;
 use crate::placing::place_all;
+use crate::scratch::Scratch;
 use crate::tallies::Tally;
 use crate::tallies::survey;
 use shelf::literal::Literal;
 use shelf::places::read_codes;
 use shelf::store::Shelf;
+
+// The clause at a place.
+fn read_place<S: Shelf>(shelf: &S, place: usize) -> Scratch
+    ensures { λ r. ⌜ (fine (now (shelf .entry)) → codes-of r ≡ clause (view (now (shelf .entry))) place) ⌝ }
+{
+    let mut codes = [0u32; 255];
+    let count = read_codes(shelf, place, &mut codes);
+    Scratch { codes, count }
+}
+
+// What is left of a clause without a literal.
+fn rest_of(parent: &Scratch, literal: Literal) -> Scratch
+    ensures { λ r. ⌜ codes-of r ≡ left-without (literal .code) (codes-of (now (parent .entry))) ⌝ }
+{
+    let mut codes = [0u32; 255];
+    let count = without(parent.slice(), literal.code, &mut codes);
+    Scratch { codes, count }
+}
+
+// The parents at the places i and j, which are resolved on a variable.
+fn read_parents<S: Shelf>(
+    shelf: &S,
+    i: usize,
+    j: usize,
+    variable: u16,
+    with_i: bool,
+    with_j: bool,
+) -> Parents
+    ensures is { λ r. ⌜ (fine (now (shelf .entry)) → listed r ≡ resolvents-at (view (now (shelf .entry))) i j variable «with_i» «with_j») ⌝ }
+    ensures spread { λ r. ⌜ (fine (now (shelf .entry)) → All-spread (view (now (shelf .entry)) .highest) (listed r)) ⌝ }
+{
+    let first = read_place(shelf, i);
+    let second = read_place(shelf, j);
+    let first_rest = rest_of(&first, Literal::of(variable));
+    let second_rest = rest_of(&second, Literal::not(variable));
+    Parents {
+        first,
+        second,
+        first_rest,
+        second_rest,
+        with_first: with_i,
+        with_second: with_j,
+    }
+}
 
 // Counts the results of resolving the places i and j on a variable, which i has
 // and j has the opposite of; with the compensations of i where with_i, of j where
@@ -27,25 +76,10 @@ pub fn survey_resolve<S: Shelf>(
     with_j: bool,
 ) -> Tally
     ensures low { λ r. ⌜ r .kept ≤ 511 ⌝ }
-    ensures is { λ r. ⌜ (S·Shelf .fine (now (shelf .entry)) → r ≡ tally-of (S·Shelf .view (now (shelf .entry)) .longest) (resolvents (2 * variable) (clause (S·Shelf .view (now (shelf .entry))) i) (clause (S·Shelf .view (now (shelf .entry))) j) «with_i» «with_j»)) ⌝ }
+    ensures is { λ r. ⌜ (fine (now (shelf .entry)) → r ≡ tally-of (view (now (shelf .entry)) .longest) (resolvents-at (view (now (shelf .entry))) i j variable «with_i» «with_j»)) ⌝ }
 {
-    let mut first = [0u32; 255];
-    let mut second = [0u32; 255];
-    let mut first_rest = [0u32; 255];
-    let mut second_rest = [0u32; 255];
-    let n = read_codes(shelf, i, &mut first);
-    let k = read_codes(shelf, j, &mut second);
-    let p = without(&first[..n], Literal::of(variable).code, &mut first_rest);
-    let q = without(&second[..k], Literal::not(variable).code, &mut second_rest);
-    let ps = Parents {
-        first: &first[..n],
-        second: &second[..k],
-        first_rest: &first_rest[..p],
-        second_rest: &second_rest[..q],
-        with_first: with_i,
-        with_second: with_j,
-    };
-    survey(ps, shelf.longest_clause())
+    let parents = read_parents(shelf, i, j, variable, with_i, with_j);
+    survey(&parents, shelf.longest_clause())
 }
 
 // Places those results from `to` on, each with the cell m.
@@ -60,23 +94,8 @@ pub fn place_resolve<S: Shelf, C: Copy>(
     to: usize,
     m: C,
 )
-    ensures { λ _. ⌜ (S·Shelf .fine (now (shelf .entry)) → Placeable (S·Shelf .view (now (shelf .entry))) to (resolvents (2 * variable) (clause (S·Shelf .view (now (shelf .entry))) i) (clause (S·Shelf .view (now (shelf .entry))) j) «with_i» «with_j») → Laid (S·Shelf .fine (now (shelf .exit))) (S·Shelf .view (now (shelf .exit))) (after-placing (S·Shelf .view (now (shelf .entry))) to (resolvents (2 * variable) (clause (S·Shelf .view (now (shelf .entry))) i) (clause (S·Shelf .view (now (shelf .entry))) j) «with_i» «with_j»)) (now (cells .exit)) (laid to (alike m (kept (resolvents (2 * variable) (clause (S·Shelf .view (now (shelf .entry))) i) (clause (S·Shelf .view (now (shelf .entry))) j) «with_i» «with_j»))) (now (cells .entry)))) ⌝ }
+    ensures { λ _. ⌜ (fine (now (shelf .entry)) → Placeable (view (now (shelf .entry))) to (resolvents-at (view (now (shelf .entry))) i j variable «with_i» «with_j») → Laid (fine (now (shelf .exit))) (view (now (shelf .exit))) (after-placing (view (now (shelf .entry))) to (resolvents-at (view (now (shelf .entry))) i j variable «with_i» «with_j»)) (now (cells .exit)) (laid to (alike m (kept (resolvents-at (view (now (shelf .entry))) i j variable «with_i» «with_j»))) (now (cells .entry)))) ⌝ }
 {
-    let mut first = [0u32; 255];
-    let mut second = [0u32; 255];
-    let mut first_rest = [0u32; 255];
-    let mut second_rest = [0u32; 255];
-    let n = read_codes(shelf, i, &mut first);
-    let k = read_codes(shelf, j, &mut second);
-    let p = without(&first[..n], Literal::of(variable).code, &mut first_rest);
-    let q = without(&second[..k], Literal::not(variable).code, &mut second_rest);
-    let ps = Parents {
-        first: &first[..n],
-        second: &second[..k],
-        first_rest: &first_rest[..p],
-        second_rest: &second_rest[..q],
-        with_first: with_i,
-        with_second: with_j,
-    };
-    place_all(shelf, cells, ps, to, m);
+    let parents = read_parents(shelf, i, j, variable, with_i, with_j);
+    place_all(shelf, cells, &parents, to, m);
 }

@@ -1,13 +1,12 @@
-// What is counted of the results before any is placed.
+// What is counted of the results before any is placed. The questions of a step
+// are answered from it, with nothing altered.
 ghost use mathlib.Core.Path.{_≡_};
-ghost use Prim.Native.Nat.{ℕ, _+_, _≤_};
+ghost use Prim.Native.Nat.{ℕ, _+_, _<_, _≤_};
 ghost use Rattle.results.specs.Counting.{tally-of, tally-one};
-ghost use Rattle.results.specs.Parents.{listed, Small};
+ghost use Rattle.results.specs.Parents.{listed};
 ghost use Rattle.results.specs.Spread.{All-spread, Spread};
 use crate::codes::clashes;
 use crate::parents::Parents;
-use crate::parents::count;
-use crate::parents::result;
 
 // How many results take places, whether one is empty, and whether each that does
 // not vanish is short enough.
@@ -20,7 +19,7 @@ pub struct Tally {
 
 // The tally with one result more.
 fn noted(tally: Tally, codes: &[u32], longest: usize) -> Tally
-    requires { ⌜ tally .kept ≤ 1000 ⌝ }
+    requires { ⌜ tally .kept < 511 ⌝ }
     ensures low { λ r. ⌜ r .kept ≤ tally .kept + 1 ⌝ }
     ensures is { λ r. ⌜ ((top : ℕ) → Spread top 2 (now (codes .entry)) → r ≡ tally-one longest (now (codes .entry)) tally) ⌝ }
 {
@@ -29,30 +28,27 @@ fn noted(tally: Tally, codes: &[u32], longest: usize) -> Tally
     }
     if codes.len() == 0 {
         return Tally {
-            kept: tally.kept,
             empty: true,
-            short: tally.short,
+            ..tally
         };
     }
     if codes.len() <= longest {
         return Tally {
             kept: tally.kept + 1,
-            empty: tally.empty,
-            short: tally.short,
+            ..tally
         };
     }
     Tally {
         kept: tally.kept + 1,
-        empty: tally.empty,
         short: false,
+        ..tally
     }
 }
 
 // Counts the results.
-pub(crate) fn survey(ps: Parents, longest: usize) -> Tally
-    requires { ⌜ Small ps ⌝ }
+pub(crate) fn survey(ps: &Parents, longest: usize) -> Tally
     ensures low { λ r. ⌜ r .kept ≤ 511 ⌝ }
-    ensures is { λ r. ⌜ ((top : ℕ) → All-spread top (listed (ps .entry)) → r ≡ tally-of longest (listed (ps .entry))) ⌝ }
+    ensures is { λ r. ⌜ ((top : ℕ) → All-spread top (listed (now (ps .entry))) → r ≡ tally-of longest (listed (now (ps .entry)))) ⌝ }
 {
     let mut tally = Tally {
         kept: 0,
@@ -60,9 +56,9 @@ pub(crate) fn survey(ps: Parents, longest: usize) -> Tally
         short: true,
     };
     let mut out = [0u32; 510];
-    let n = count(ps);
+    let n = ps.count();
     for t in 0..n {
-        let len = result(ps, t, &mut out);
+        let len = ps.result(t, &mut out);
         tally = noted(tally, &out[..len], longest);
     }
     tally

@@ -7,8 +7,6 @@ ghost use Rattle.bench.specs.Asked.{verdict-told};
 ghost use Rattle.bench.specs.Meaning.{case-of, phase-of, state-of, cheapest-told, Done, If-refused};
 use crate::case::Bench;
 use crate::case::Phase;
-use crate::case::asking::ledger_is_long_enough;
-use crate::case::asking::takes_steps;
 use crate::fault::Fault;
 use cost::kind::CostKind;
 use ledger::cell::Cell;
@@ -33,12 +31,7 @@ impl<K: CostKind> Bench<K> {
     fn ask_cheapest<S: Shelf>(&self, shelf: &S, ledger: &[Cell<K::Row>]) -> Result<(), Fault>
         ensures { λ r. ⌜ (S·Shelf .fine (now (shelf .entry)) → verdict-told r ≡ first-no (cheapest-questions (state-of (K·CostKind .kind) (now (self .entry)) (S·Shelf .view (now (shelf .entry))) (now (ledger .entry))))) ⌝ }
     {
-        if !ledger_is_long_enough::<K, S>(shelf, ledger) {
-            return Err(Fault::LedgerTooShort);
-        }
-        if !takes_steps(self.phase) {
-            return Err(Fault::WrongPhase);
-        }
+        self.ask_step(shelf, ledger)?;
         match self.shown {
             None => Err(Fault::NoPlanShown),
             Some(cost) => match K::compare(self.proved, cost) {

@@ -1,5 +1,5 @@
 use native.Mathlib.Omega.{arith}
-use mathlib.Core.Path.{_≡_, sym, _∙_}
+use mathlib.Core.Path.{sym, _∙_}
 use Rattle.results.proofs.Clashing.{clash-begun, clash-more, clash-found, clash-none}
 use Rattle.results.proofs.codes.clashes.Needs as need
 

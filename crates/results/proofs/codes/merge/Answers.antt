@@ -1,11 +1,12 @@
 use native.Mathlib.Omega.{arith}
-use mathlib.Core.Logic.{inl, inr, _⊎_, ⊎-elim}
-use Prim.Native.Nat.{_≤_, _<_, _+_}
+use mathlib.Core.Logic.{inl, inr, _⊎_}
+use Prim.Native.Nat.{_≤_, _+_}
 use lib.ListN.{length}
-use Rattle.results.proofs.Merging.{Merging, take-left, take-both, take-right, last-left, last-right, merged}
+use Rattle.std.proofs.shelf.Lists.{length-take, length-drop}
+use Rattle.results.proofs.Merging.{take-left, take-both, take-right, merged}
 use borrow.Author.Needs.{needs}
 use Rattle.results.proofs.codes.merge.Needs as need
-use Rattle.results.proofs.codes.merge.Needs.{then-a-b, else-a-b·then-a-b-2, else-a-b·else-a-b-2}
+use Rattle.results.proofs.codes.merge.Needs.{then-a-b, else-a-b·then-a-b-2, else-a-b·else-a-b-2, then-loop-i-test·else-j-y, else-loop-i-test}
 
 pub loop-i-again : need.loop-i-again
 loop-i-again c =
@@ -17,14 +18,13 @@ loop-i-again c =
       | else-a-b·else-a-b-2 w ↦ let t = take-right m r (omega arith) (omega arith) (omega arith) in search needs
     ]
 
-pub loop-i-2-again : need.loop-i-2-again
-loop-i-2-again c =
-    let m = c .loop-i-2 .inv .0 in
-    let d : length (c .args .y .now) ≤ c .loop-i .j = ⊎-elim (λ h. omega arith) (λ h. h) (c .loop-i-2 .inv .1) in
-    (last-left m (omega arith) (omega arith) d, inr d)
-
-pub loop-j-again : need.loop-j-again
-loop-j-again c = (last-right (c .loop-j .inv .0) (omega arith) (c .loop-j .inv .1) (omega arith), c .loop-j .inv .1)
+one-ended : (c : need.After-slice-known-3·1) → (length (c .args .x .now) ≤ c .loop-i .i) ⊎ (length (c .args .y .now) ≤ c .loop-i .j)
+one-ended c = elim (c .loop-i-test .came) [ then-loop-i-test·else-j-y w ↦ inr (w .if-j-y .left) | else-loop-i-test w ↦ inl (w .loop-i-test .left) ]
 
 pub returns : need.returns
-returns c = let m = merged (c .loop-j .inv .0) (omega arith) (c .loop-j .inv .1) (omega arith) in record { low = m .0; is = m .1 }
+returns c =
+    let m = c .loop-i .inv in
+    record {
+      low = omega (arith, simp (length-take, length-drop) at (c .append-n .ensures .count), simp (length-take, length-drop) at (c .append .ensures .count));
+      is = merged m (one-ended c) (c .append-n .ensures .is) (c .append .ensures .is);
+    }

@@ -1,8 +1,6 @@
 use native.Mathlib.Omega.{arith}
-use mathlib.Core.Path.{_≡_, sym, _∙_, ap}
-use mathlib.Core.List.{List}
-use Prim.Native.Nat.{ℕ}
-use lib.ListN.{length, getD, set}
+use mathlib.Core.Path.{_≡_, _∙_, ap}
+use lib.ListN.{length, set}
 use Rattle.shelf.specs.Literals.{opposite}
 use Rattle.rules.specs.Clauses.{merge, turned}
 use Rattle.results.proofs.Merging.{turned-first, turned-none}

@@ -1,5 +1,4 @@
 use native.Mathlib.Omega.{arith}
-use mathlib.Core.Path.{_≡_, sym, _∙_}
 use Rattle.results.proofs.Merging.{keep-one, skip-one, sifted}
 use borrow.Author.Needs.{needs}
 use Rattle.results.proofs.codes.without.Needs as need

@@ -1,10 +1,8 @@
 use Prim.Native.Nat.{ℕ, _≤_}
-use mathlib.Core.Path.{_≡_}
-use lib.ListN.{length}
 use Rattle.results.specs.Spread.{All-spread}
 use Rattle.results.specs.Parents.{listed}
 use Rattle.results.proofs.Tallying.{Tallying}
 use Rattle.results.proofs.tallies.survey.Given as given
 
 abbrev pub Inv-loop-t : given.InvT-loop-t
-Inv-loop-t l = (length (l .out) ≡ 510) × (l .tally .kept ≤ l .t) × ((top : ℕ) → All-spread top (listed (l .ps)) → Tallying (l .longest) (listed (l .ps)) (l .t) (l .tally))
+Inv-loop-t l = (l .tally .kept ≤ l .t) × ((top : ℕ) → All-spread top (listed (l .ps)) → Tallying (l .longest) (listed (l .ps)) (l .t) (l .tally))
