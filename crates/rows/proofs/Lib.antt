@@ -3,3 +3,4 @@ pub mod Rowing
 pub mod Slips
 pub mod Writings
 pub mod Steps
+pub mod Making

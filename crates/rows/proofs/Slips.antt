@@ -96,21 +96,26 @@ module _ (row mid : List ℕ) (n k c m : ℕ) (count : getD row 0 0 ≡ n) (room
       ∙ getD-drop (k + 1) row (j + 1 - k - 1) 0
       ∙ ap (λ (x : ℕ). getD row x 0) q)
 
-module _ (row : List ℕ) (c k : ℕ) (count : getD row 0 0 < length row) where
-  pub twice-there : k < getD row 0 0 → getD row (k + 1) 0 / 2 ≡ c / 2 → stands (c / 2) (codes-of row) ≡ true
-  twice-there h e =
+pub twice-there : (row : List ℕ) (c v k : ℕ) → getD row 0 0 < length row → v ≡ c / 2 → k < getD row 0 0 → getD row (k + 1) 0 / 2 ≡ v → stands (c / 2) (codes-of row) ≡ true
+twice-there row c v k count is h e =
+    let l = codes-length row count in
+    stands-at (c / 2) (codes-of row) k (omega arith) (ap (λ (x : ℕ). x / 2) (codes-getD row k h) ∙ e ∙ is)
+
+-- k is the number of the variables below v, which is that of c, and v is not the next
+module _ (row : List ℕ) (c v k : ℕ) (count : getD row 0 0 < length row) (is : v ≡ c / 2) (within : k ≤ getD row 0 0) (before : (j : ℕ) → j < k → getD row (j + 1) 0 / 2 < v) (after : k < getD row 0 0 → v ≤ getD row (k + 1) 0 / 2) (other : k < getD row 0 0 → getD row (k + 1) 0 / 2 ≡ v → ⊥) where
+  low : (j : ℕ) → j < k → getD (codes-of row) j 0 / 2 < c / 2
+  low j h = let e = codes-getD row j (omega arith) in let b = before j h in rw e (omega arith)
+
+  high : k < length (codes-of row) → c / 2 < getD (codes-of row) k 0 / 2
+  high h =
       let l = codes-length row count in
-      stands-at (c / 2) (codes-of row) k (omega arith) (ap (λ (x : ℕ). x / 2) (codes-getD row k h) ∙ e)
+      let e = codes-getD row k (omega arith) in
+      let a = after (omega arith) in
+      let o = other (omega arith) in
+      rw e (omega arith)
 
-  module _ (within : k ≤ getD row 0 0) (before : (j : ℕ) → j < k → getD row (j + 1) 0 / 2 < c / 2) (above : k < getD row 0 0 → c / 2 < getD row (k + 1) 0 / 2) where
-    low : (j : ℕ) → j < k → getD (codes-of row) j 0 / 2 < c / 2
-    low j h = let e = codes-getD row j (omega arith) in rw e (before j h)
+  pub not-there : (V : ℕ) → Rising V 0 (codes-of row) → stands (c / 2) (codes-of row) ≡ false
+  not-there V rises = let l = codes-length row count in stands-off V 0 (c / 2) (codes-of row) k rises low high (omega arith)
 
-    high : k < length (codes-of row) → c / 2 < getD (codes-of row) k 0 / 2
-    high h = let l = codes-length row count in let e = codes-getD row k (omega arith) in rw e (above (omega arith))
-
-    pub not-there : (V : ℕ) → Rising V 0 (codes-of row) → stands (c / 2) (codes-of row) ≡ false
-    not-there V rises = let l = codes-length row count in stands-off V 0 (c / 2) (codes-of row) k rises low high (omega arith)
-
-    pub put-there : put c (codes-of row) ≡ inserted (codes-of row) k c
-    put-there = let l = codes-length row count in put-at (codes-of row) c k (omega arith) low high
+  pub put-there : put c (codes-of row) ≡ inserted (codes-of row) k c
+  put-there = let l = codes-length row count in put-at (codes-of row) c k (omega arith) low high

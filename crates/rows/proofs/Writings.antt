@@ -2,7 +2,7 @@
 -- the two laws that follow.
 use mathlib.Core.List.{List, []}
 use mathlib.Core.Logic.{inl, inr, ⊎-elim}
-use mathlib.Core.Path.{_≡_, refl, sym, _∙_, ap, subst}
+use mathlib.Core.Path.{_≡_, sym, _∙_, ap, subst}
 use Prim.Native.Nat.{ℕ, zero, suc, _<_, _≤_, _+_, _-_, _*_, _/_, _%_}
 use native.Mathlib.Nat.{mod-lt}
 use native.Mathlib.Omega.{arith}
@@ -13,9 +13,9 @@ use Rattle.std.proofs.shelf.Tests.{cases-lt}
 use Rattle.shelf.specs.Literals.{Rising}
 use Rattle.shelf.specs.View.{View, clause}
 use Rattle.rows.specs.Laws.{Free-is-zero, One-writing}
-use Rattle.rows.specs.Rows.{codes-of, row-at, Row, Rows, used, held-in, rows-view}
-use Rattle.rows.specs.Soundness.{held-length, held-at}
-use Rattle.rows.proofs.Rowing.{codes-length, codes-getD, codes-none, row-length, row-getD, rows-apart, row-fits}
+use Rattle.rows.specs.Rows.{codes-of, row-at, Row, used}
+use Rattle.rows.specs.Soundness.{held-at}
+use Rattle.rows.proofs.Rowing.{codes-length, codes-getD, codes-none, row-length, row-getD, row-fits}
 
 pub repeats-at : {A : Type 0} (d : A) (n k : ℕ) → getD (replicate n d) k d ≡ d
 repeats-at d n k =

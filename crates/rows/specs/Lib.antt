@@ -1,4 +1,5 @@
 pub mod Rows
+pub mod Finding
 pub mod Soundness
 pub mod Made
 pub mod Shelves

@@ -6,7 +6,10 @@
 --                   where the limits are not kept
 --   made-highest, made-longest   V and L; 1 where the limits are not kept
 --   made-view       those measures with every place free
---   lone-answer     what adding one code to place 0 and asking for its size tells
+--   once            an answer with 1 for what was granted
+--   lone-answer     what adding one code to place 0 and asking for the size there
+--                   tells: the size, 1, or the refusal's number
+--   told            a result with its refusal told by number
 use mathlib.Core.Bool.{Bool, cond, _&&_}
 use mathlib.Core.List.{[]}
 use Prim.Native.Nat.{ℕ, _+_, _/_, min}

@@ -10,21 +10,12 @@
 --                       room for P rows, and a row at each place
 --   held-in, rows-view  the clauses at the places, and what the words mean
 --   used P L            how many words the places take; those after are spare
---   Starts, Found       what the code learns of where a row begins, and of a row
---   Gap row c k         the row has room for one more, and the code c goes in
---                       before the k-th of its codes
---   granted             a result that tells of its value only that it is there
 use mathlib.Core.List.{List, [], map}
 use mathlib.Core.Path.{_≡_}
 use Prim.Native.Nat.{ℕ, _+_, _*_, _<_, _≤_}
 use lib.ListN.{length, getD, take, drop}
-use Rattle.std.specs.Holes.{inserted}
 use Rattle.std.specs.Iters.{counting}
-use Rattle.std.specs.declared.result.Result.{Result}
-use Rattle.std.specs.declared.result.Result.the-variants.{Ok, Err}
-use Rattle.shelf.specs.declared.refusal.Refusal.{Refusal}
-use Rattle.shelf.specs.Answers.{number-of}
-use Rattle.shelf.specs.Literals.{Rising, put}
+use Rattle.shelf.specs.Literals.{Rising}
 use Rattle.shelf.specs.View.{View}
 
 unfoldable pub codes-of : List ℕ → List ℕ
@@ -55,25 +46,3 @@ held-in P L ws = map (λ p. codes-of (row-at (L + 1) ws p)) (counting 0 P)
 
 abbrev pub rows-view : ℕ → ℕ → ℕ → List ℕ → View
 rows-view P V L ws = record { places = P; highest = V; longest = L; held = held-in P L ws; remainder = [] }
-
-pub record Starts (P L : ℕ) (ws : List ℕ) (p a : ℕ) : Type 0 where
-  pub place : p < P
-  pub at : a ≡ p * (L + 1)
-  pub room : a + (L + 1) ≤ length ws
-
-pub record Found (P L : ℕ) (ws : List ℕ) (p : ℕ) (row : List ℕ) : Type 0 where
-  pub place : p < P
-  pub room : p * (L + 1) + (L + 1) ≤ length ws
-  pub words : row ≡ row-at (L + 1) ws p
-  pub long : length row ≡ L + 1
-  pub short : length row ≤ 256
-  pub count : getD row 0 0 < length row
-
-pub record Gap (row : List ℕ) (c k : ℕ) : Type 0 where
-  pub room : getD row 0 0 + 1 < length row
-  pub within : k ≤ getD row 0 0
-  pub goes : put c (codes-of row) ≡ inserted (codes-of row) k c
-
-abbrev pub granted : Result ℕ Refusal → Result (Unit {0}) ℕ
-granted (Ok k) = Ok tt
-granted (Err e) = Err (number-of e)

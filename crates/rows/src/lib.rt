@@ -3,21 +3,23 @@
 // them, so it is safe on every value and a refused call leaves the shelf equal.
 ghost use mathlib.Core.Path.{_≡_};
 ghost use Prim.Native.Nat.{_+_, _≤_};
-ghost use lib.ListN.{length, take, drop, replicate};
+ghost use lib.ListN.{length, replicate};
 ghost use Rattle.std.specs.Vec.{made};
 ghost use Rattle.std.specs.declared.option.Option.the-variants.{Some, None};
 ghost use Rattle.std.specs.declared.result.Result.the-variants.{Ok, Err};
-ghost use Rattle.shelf.specs.Answers.{Did, numbered, added, after-add, wiped, after-wipe};
+ghost use Rattle.shelf.specs.Answers.{Became, Did, numbered, added, after-add, wiped, after-wipe};
 ghost use Rattle.rows.specs.Laws.{Free-is-zero, One-writing};
 ghost use Rattle.rows.specs.Made.{made-view, lone-answer, told};
-ghost use Rattle.rows.specs.Rows.{Gap, granted, used};
-ghost use Rattle.rows.specs.Shelves.{Finds, Starts-at, in-order, meaning, row-of, spare, words-of};
+ghost use Rattle.rows.specs.Finding.{Gap, granted};
+ghost use Rattle.rows.specs.Shelves.{Finds, Fresh, Misses, Starts-at, in-order, meaning, row-of, spare, words-of};
 ghost use Rattle.rows.specs.Soundness.{sound-rows};
 use shelf::literal::Literal;
 use shelf::refusal::Refusal;
 use shelf::store::Shelf;
 
 mod row;
+#[cfg(test)]
+mod tests;
 
 // The words and the measures: P places, variables up to the highest, clauses up
 // to the longest. The rest of the words, past the last place's, is spare.
@@ -32,10 +34,7 @@ pub struct RowShelf<'a> {
 impl<'a> RowShelf<'a> {
     // A shelf with every place free; where a limit is not kept, one with no place.
     pub fn new(words: &'a mut [u32], highest: usize, longest: usize) -> RowShelf<'a>
-        ensures fine { λ r. ⌜ in-order r ⌝ }
-        ensures view { λ r. ⌜ meaning r ≡ made-view (length (now (words .entry))) highest longest ⌝ }
-        ensures cleared { λ r. ⌜ take (used (r .places) (r .longest)) (words-of r) ≡ replicate (used (r .places) (r .longest)) 0 ⌝ }
-        ensures spare { λ r. ⌜ spare r ≡ drop (used (r .places) (r .longest)) (now (words .entry)) ⌝ }
+        ensures { λ r. ⌜ Fresh r (now (words .entry)) highest longest ⌝ }
     {
         if highest < 1 || highest > 65535 || longest < 1 || longest > 255 {
             return RowShelf {
@@ -45,13 +44,23 @@ impl<'a> RowShelf<'a> {
                 longest: 1,
             };
         }
-        let places = (words.len() / (longest + 1)).min(65535);
-        words[0..places * (longest + 1)].fill(0);
+        RowShelf::cleared(words, highest as u16, longest as u8)
+    }
+
+    // A shelf with every place free.
+    fn cleared(words: &'a mut [u32], highest: u16, longest: u8) -> RowShelf<'a>
+        requires highest { ⌜ 1 ≤ highest ⌝ }
+        requires longest { ⌜ 1 ≤ longest ⌝ }
+        ensures { λ r. ⌜ Fresh r (now (words .entry)) highest longest ⌝ }
+    {
+        let width = longest as usize + 1;
+        let places = (words.len() / width).min(65535);
+        words[0..places * width].fill(0);
         RowShelf {
             words,
             places: places as u16,
-            highest: highest as u16,
-            longest: longest as u8,
+            highest,
+            longest,
         }
     }
 }
@@ -59,7 +68,7 @@ impl<'a> RowShelf<'a> {
 impl RowShelf<'_> {
     // Where the row of a place begins, unless there is no such row.
     fn start(&self, place: usize) -> Option<usize>
-        ensures { λ r. ⌜ elim r [ None ↦ (in-order (now (self .entry)) → now (self .entry) .places ≤ place) | Some at ↦ Starts-at (now (self .entry)) place at ] ⌝ }
+        ensures { λ r. ⌜ elim r [ None ↦ (in-order (now (self .entry)) → Misses (now (self .entry)) place) | Some at ↦ Starts-at (now (self .entry)) place at ] ⌝ }
     {
         if place >= self.places as usize {
             return None;
@@ -74,7 +83,7 @@ impl RowShelf<'_> {
 
     // The row of a place, unless there is none or its count passes its end.
     fn row(&self, place: usize) -> Option<&[u32]>
-        ensures { λ r. ⌜ elim r [ None ↦ (in-order (now (self .entry)) → now (self .entry) .places ≤ place) | Some row ↦ Finds (now (self .entry)) place (now row) ] ⌝ }
+        ensures { λ r. ⌜ elim r [ None ↦ (in-order (now (self .entry)) → Misses (now (self .entry)) place) | Some row ↦ Finds (now (self .entry)) place (now row) ] ⌝ }
     {
         match self.start(place) {
             None => None,
@@ -104,6 +113,29 @@ impl RowShelf<'_> {
             }
         }
     }
+
+    // Puts a literal in at a gap of the row of a place.
+    fn insert(&mut self, place: usize, k: usize, literal: Literal)
+        requires row { ⌜ Finds (now self) place (row-of (now self) place) ⌝ }
+        requires gap { ⌜ Gap (row-of (now self) place) (literal .code) k ⌝ }
+        ensures became { λ _. ⌜ (in-order (now (self .entry)) → Ok tt ≡ added (meaning (now (self .entry))) place (literal .code) → Became (in-order (now (self .exit))) (meaning (now (self .exit))) (after-add (meaning (now (self .entry))) place (literal .code))) ⌝ }
+        ensures spare { λ _. ⌜ spare (now (self .exit)) ≡ spare (now (self .entry)) ⌝ }
+    {
+        let width = self.longest as usize + 1;
+        let at = place * width;
+        row::slip(&mut self.words[at..at + width], k, literal);
+    }
+
+    // Zeroes every word of the row of a place, which begins at a word.
+    fn clear(&mut self, place: usize, at: usize)
+        requires { ⌜ Starts-at (now self) place at ⌝ }
+        ensures became { λ _. ⌜ (in-order (now (self .entry)) → Became (in-order (now (self .exit))) (meaning (now (self .exit))) (after-wipe (meaning (now (self .entry))) place)) ⌝ }
+        ensures spare { λ _. ⌜ spare (now (self .exit)) ≡ spare (now (self .entry)) ⌝ }
+        ensures zero { λ _. ⌜ row-of (now (self .exit)) place ≡ replicate (now (self .exit) .longest + 1) 0 ⌝ }
+    {
+        let width = self.longest as usize + 1;
+        self.words[at..at + width].fill(0);
+    }
 }
 
 pub impl<'a> Shelf for RowShelf<'a> as RowShelfShelf {
@@ -113,18 +145,22 @@ pub impl<'a> Shelf for RowShelf<'a> as RowShelfShelf {
 
     ghost sound = { λ s f. sound-rows (s .places) (s .highest) (s .longest) (words-of s) f };
 
+    // The number of places.
     fn place_count(&self) -> usize {
-        self.places as usize
+        usize::from(self.places)
     }
 
+    // The highest variable.
     fn highest_variable(&self) -> usize {
-        self.highest as usize
+        usize::from(self.highest)
     }
 
+    // The most literals at a place.
     fn longest_clause(&self) -> usize {
-        self.longest as usize
+        usize::from(self.longest)
     }
 
+    // The count of the row, or 0 where there is none.
     fn size(&self, place: usize) -> usize {
         match self.row(place) {
             None => 0,
@@ -132,6 +168,7 @@ pub impl<'a> Shelf for RowShelf<'a> as RowShelfShelf {
         }
     }
 
+    // The k-th code of the row, or 0 past the count.
     fn literal(&self, place: usize, k: usize) -> Literal {
         match self.row(place) {
             None => Literal { code: 0 },
@@ -144,6 +181,7 @@ pub impl<'a> Shelf for RowShelf<'a> as RowShelfShelf {
         }
     }
 
+    // Whether the literal is in the row.
     fn holds(&self, place: usize, literal: Literal) -> bool {
         match self.row(place) {
             None => false,
@@ -151,18 +189,18 @@ pub impl<'a> Shelf for RowShelf<'a> as RowShelfShelf {
         }
     }
 
+    // Asks all, and only then writes the row.
     fn add(&mut self, place: usize, literal: Literal) -> Result<(), Refusal>
         ensures did { λ r. ⌜ (in-order (now (self .entry)) → Did (in-order (now (self .exit))) (numbered r) (added (meaning (now (self .entry))) place (literal .code)) (meaning (now (self .exit))) (after-add (meaning (now (self .entry))) place (literal .code))) ⌝ }
         ensures refused { λ r. ⌜ elim r [ Ok u ↦ Unit {0} | Err e ↦ now (self .exit) ≡ now (self .entry) ] ⌝ }
         ensures spare { λ r. ⌜ spare (now (self .exit)) ≡ spare (now (self .entry)) ⌝ }
     {
         let k = self.gap(place, literal)?;
-        let width = self.longest as usize + 1;
-        let at = place * width;
-        row::slip(&mut self.words[at..at + width], k, literal);
+        self.insert(place, k, literal);
         Ok(())
     }
 
+    // Zeroes every word of the row.
     fn wipe(&mut self, place: usize) -> Result<(), Refusal>
         ensures did { λ r. ⌜ (in-order (now (self .entry)) → Did (in-order (now (self .exit))) (numbered r) (wiped (meaning (now (self .entry))) place) (meaning (now (self .exit))) (after-wipe (meaning (now (self .entry))) place)) ⌝ }
         ensures refused { λ r. ⌜ elim r [ Ok u ↦ Unit {0} | Err e ↦ now (self .exit) ≡ now (self .entry) ] ⌝ }
@@ -172,8 +210,7 @@ pub impl<'a> Shelf for RowShelf<'a> as RowShelfShelf {
         match self.start(place) {
             None => Err(Refusal::NoSuchPlace),
             Some(at) => {
-                let width = self.longest as usize + 1;
-                self.words[at..at + width].fill(0);
+                self.clear(place, at);
                 Ok(())
             }
         }

@@ -7,7 +7,8 @@ ghost use lib.ListN.{length, getD};
 ghost use Rattle.std.specs.Vec.{made};
 ghost use Rattle.shelf.specs.Answers.{fitted};
 ghost use Rattle.shelf.specs.Literals.{Rising, among, put};
-ghost use Rattle.rows.specs.Rows.{Gap, codes-of, granted};
+ghost use Rattle.rows.specs.Finding.{Gap, granted};
+ghost use Rattle.rows.specs.Rows.{codes-of};
 use shelf::literal::Literal;
 use shelf::refusal::Refusal;
 

@@ -1,5 +1,5 @@
 use lib.ListN.{length}
-use Rattle.rows.proofs.Steps.{lone-told}
+use Rattle.rows.proofs.Making.{lone-told}
 use Rattle.rows.proofs.lone_literal.Needs as need
 
 pub returns : need.returns

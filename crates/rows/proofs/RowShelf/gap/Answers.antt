@@ -1,10 +1,11 @@
 use mathlib.Core.List.{List}
-use mathlib.Core.Path.{_≡_, sym, _∙_, subst}
+use mathlib.Core.Path.{sym, _∙_, subst}
 use Prim.Native.Nat.{ℕ, _+_, _/_, _≤_}
 use native.Mathlib.Omega.{arith}
 use Rattle.std.proofs.shelf.Results.{made-weaker}
 use Rattle.shelf.specs.Literals.{Rising}
-use Rattle.rows.specs.Rows.{Found, Gap, codes-of, row-at}
+use Rattle.rows.specs.Finding.{Found, Gap}
+use Rattle.rows.specs.Rows.{codes-of, row-at}
 use Rattle.rows.proofs.Steps.{found-added}
 use Rattle.rows.proofs.RowShelf.gap.Needs as need
 
@@ -23,6 +24,6 @@ returns-else-variable-self c =
     record {
       answer = λ h.
           let rises : Rising (s .highest) 0 (codes-of row) = subst (λ (l : List ℕ). Rising (s .highest) 0 (codes-of l)) (sym (f .words)) (h .each p (f .place) .rises) in
-          c .gap .ensures .answer (s .highest) rises ∙ found-added (s .places) (s .longest) ws p row f (s .highest) code low high;
+          c .gap .ensures .answer (s .highest) rises ∙ found-added (s .places) (s .highest) (s .longest) ws p row code f low high;
       gap = made-weaker (c .gap .result) (λ k. Gap row code k) (Both (row-at (s .longest + 1) ws p)) (λ k g. subst (λ (l : List ℕ). Both l k) (f .words) (f, g)) (c .gap .ensures .gap);
     }

@@ -1,5 +1,5 @@
 use mathlib.Core.Path.{_≡_, sym, _∙_}
-use Prim.Native.Nat.{ℕ, _+_, _-_, _/_, _<_}
+use Prim.Native.Nat.{_+_, _-_, _/_, _<_}
 use native.Mathlib.Omega.{arith}
 use lib.ListN.{length, getD}
 use Rattle.std.proofs.shelf.Tests.{cond-true, cond-false, lt-ltb, le-ltb}
@@ -11,41 +11,41 @@ use Rattle.rows.proofs.row.gap.Needs.{else-k-count·by·then-k-count·else-row
 
 pub returns-then-row-k : need.returns-then-row-k
 returns-then-row-k c =
-    let row = c .args .row .now in
-    let twice = twice-there row (c .args .literal .code) (c .below-k .result) (c .pre) (c .if-k-count .taken) (c .if-row-k .taken ∙ c .variable-variable .ensures) in
+    let twice = twice-there (c .args .row .now) (c .args .literal .code) (c .variable-variable .result) (c .below-k .result) (c .pre) (c .variable-variable .ensures) (c .if-k-count .taken) (c .if-row-k .taken) in
     record { answer = λ V rises. sym (cond-true _ _ _ twice); gap = tt }
 
 pub returns-then-count-row : need.returns-then-count-row
 returns-then-count-row c =
-    let k = c .below-k .result in
     let row = c .args .row .now in
-    let code = c .args .literal .code in
-    let e = c .variable-variable .ensures in
-    let before : (j : ℕ) → j < k → getD row (j + 1) 0 / 2 < code / 2 = λ j h. omega (arith, c .below-k .ensures .before j h) in
-    let above : k < getD row 0 0 → code / 2 < getD row (k + 1) 0 / 2 = elim (c .else-k-count .came) [
-      | else-k-count·by·then-k-count·else-row-k w ↦ λ h. omega (arith, c .below-k .ensures .after h, w .if-row-k .left)
-      | else-k-count·by·else-k-count w ↦ λ h. omega (arith, w .if-k-count .left)
+    let v = c .variable-variable .result in
+    let k = c .below-k .result in
+    let b = c .below-k .ensures in
+    let other : k < getD row 0 0 → getD row (k + 1) 0 / 2 ≡ v → ⊥ = elim (c .else-k-count .came) [
+      | else-k-count·by·then-k-count·else-row-k w ↦ λ h. w .if-row-k .left
+      | else-k-count·by·else-k-count w ↦ λ h e. omega (arith, w .if-k-count .left)
     ] in
+    let off = not-there row (c .args .literal .code) v k (c .pre) (c .variable-variable .ensures) (b .within) (b .before) (b .after) other in
     let l = codes-length row (c .pre) in
-    record {
-      answer = λ V rises. sym (cond-false _ _ _ (not-there row code k (c .pre) (c .below-k .ensures .within) before above V rises) ∙ cond-false _ _ _ (le-ltb (length (codes-of row)) (length row - 1) (omega (arith, c .if-count-row .taken))));
-      gap = tt;
-    }
+    let full = le-ltb (length (codes-of row)) (length row - 1) (omega (arith, c .if-count-row .taken)) in
+    record { answer = λ V rises. sym (cond-false _ _ _ (off V rises) ∙ cond-false _ _ _ full); gap = tt }
 
 pub returns : need.returns
 returns c =
-    let k = c .below-k .result in
     let row = c .args .row .now in
     let code = c .args .literal .code in
-    let e = c .variable-variable .ensures in
-    let before : (j : ℕ) → j < k → getD row (j + 1) 0 / 2 < code / 2 = λ j h. omega (arith, c .below-k .ensures .before j h) in
-    let above : k < getD row 0 0 → code / 2 < getD row (k + 1) 0 / 2 = elim (c .else-k-count .came) [
-      | else-k-count·by·then-k-count·else-row-k w ↦ λ h. omega (arith, c .below-k .ensures .after h, w .if-row-k .left)
-      | else-k-count·by·else-k-count w ↦ λ h. omega (arith, w .if-k-count .left)
+    let v = c .variable-variable .result in
+    let is = c .variable-variable .ensures in
+    let k = c .below-k .result in
+    let b = c .below-k .ensures in
+    let other : k < getD row 0 0 → getD row (k + 1) 0 / 2 ≡ v → ⊥ = elim (c .else-k-count .came) [
+      | else-k-count·by·then-k-count·else-row-k w ↦ λ h. w .if-row-k .left
+      | else-k-count·by·else-k-count w ↦ λ h e. omega (arith, w .if-k-count .left)
     ] in
+    let off = not-there row code v k (c .pre) is (b .within) (b .before) (b .after) other in
     let l = codes-length row (c .pre) in
     let free : getD row 0 0 + 1 < length row = omega (arith, c .if-count-row .left, c .pre) in
+    let room = lt-ltb (length (codes-of row)) (length row - 1) (omega arith) in
     record {
-      answer = λ V rises. sym (cond-false _ _ _ (not-there row code k (c .pre) (c .below-k .ensures .within) before above V rises) ∙ cond-true _ _ _ (lt-ltb (length (codes-of row)) (length row - 1) (omega arith)));
-      gap = record { room = free; within = c .below-k .ensures .within; goes = put-there row code k (c .pre) (c .below-k .ensures .within) before above };
+      answer = λ V rises. sym (cond-false _ _ _ (off V rises) ∙ cond-true _ _ _ room);
+      gap = record { room = free; within = b .within; goes = put-there row code v k (c .pre) is (b .within) (b .before) (b .after) other };
     }
