@@ -24,7 +24,7 @@ module _ {F : Type 0} (f : F) (s : State) (qs : List Question) (o : Outcome) whe
 -- three parts that are equal make equal states
 pub opened : {z w : List ℤ} {v v′ : View} {l l′ : List Cell} (n : ℕ) → z ≡ w → v ≡ v′ → l ≡ l′
     → _≡_ {A = State} (record { bench = record { phase = filling; n = n; current = n; total = z; proved = z; impossible = false; shown = None }; shelf = v; ledger = l })
-      (record { bench = record { phase = filling; n = n; current = n; total = w; proved = w; impossible = false; shown = None }; shelf = v′; ledger = l′ })
+    (record { bench = record { phase = filling; n = n; current = n; total = w; proved = w; impossible = false; shown = None }; shelf = v′; ledger = l′ })
 opened n p q r = cc
 
 pub same-state : {b b′ : Case} {v v′ : View} {l l′ : List Cell} → b ≡ b′ → v ≡ v′ → l ≡ l′

@@ -65,20 +65,20 @@ module _ (k : Scale) (s : State) (i j x to : ℕ) where
         pub all-passed : (d : Dues) → Ok d ≡ told-by reply (dues (has-empty rs) (cell-in k s i) (cell-in k s j) (s .bench .proved))
             → (passes ≡ first-no (resolve-questions k s i j x to)) × (d ≡ dues (has-empty rs) (cell-in k s i) (cell-in k s j) (s .bench .proved))
         all-passed d h =
-          let q = told-ok reply (dues (has-empty rs) (cell-in k s i) (cell-in k s j) (s .bench .proved)) d h in
-          (ap (λ (y : Reply). after-reply 13 y passes) (sym (q .0)) ∙ asked, q .1)
+            let q = told-ok reply (dues (has-empty rs) (cell-in k s i) (cell-in k s j) (s .bench .proved)) d h in
+            (ap (λ (y : Reply). after-reply 13 y passes) (sym (q .0)) ∙ asked, q .1)
 
   -- the results may be placed
   pub placeable : passes ≡ first-no (resolve-questions k s i j x to) → Placeable (s .shelf) to rs
   placeable h =
-    let v = s .shelf in
-    let q₁ = yes-then 1 (ledger-long s) _ h in
-    let q₂ = yes-then 2 (takes-steps (s .bench .phase)) _ (q₁ .1) in
-    let q₉ = yes-then 9 (filled v i && filled v j) _ (q₂ .1) in
-    let q₁₀ = yes-then 10 (among (2 * x) (clause v i) && among (2 * x + 1) (clause v j)) _ (q₉ .1) in
-    let q₁₁ = yes-then 11 (short-enough (v .longest) rs) _ (q₁₀ .1) in
-    let q₁₂ = yes-then 12 (roomy v to (length (kept rs))) (after-reply 13 reply passes) (q₁₁ .1) in
-    record { fits = q₁₁ .0; room = q₁₂ .0 }
+      let v = s .shelf in
+      let q₁ = yes-then 1 (ledger-long s) _ h in
+      let q₂ = yes-then 2 (takes-steps (s .bench .phase)) _ (q₁ .1) in
+      let q₉ = yes-then 9 (filled v i && filled v j) _ (q₂ .1) in
+      let q₁₀ = yes-then 10 (among (2 * x) (clause v i) && among (2 * x + 1) (clause v j)) _ (q₉ .1) in
+      let q₁₁ = yes-then 11 (short-enough (v .longest) rs) _ (q₁₀ .1) in
+      let q₁₂ = yes-then 12 (roomy v to (length (kept rs))) (after-reply 13 reply passes) (q₁₁ .1) in
+      record { fits = q₁₁ .0; room = q₁₂ .0 }
 
 -- the same results, with the flags told otherwise
 pub same-results : (v : View) (i j x : ℕ) {a b c d : Bool} → a ≡ c → b ≡ d → resolvents-at v i j x a b ≡ resolvents-at v i j x c d
@@ -110,9 +110,9 @@ module _ (k : Scale) (s : State) (i j x to : ℕ) where
       → l ≡ rest (d .common) (d .left-at-i) (d .left-at-j) (resolvents-at (s .shelf) i j x wi wj)
       → _≡_ {A = State} (record { bench = bench-by mark (d .proved); shelf = v; ledger = l }) (worked (resolve-done k s i j x to))
   resolved-state d wi wj mark v l e p q m h r =
-    let rs = same-results (s .shelf) i j x p q in
-    let D = dues (has-empty (results-at k s i j x)) (cell-in k s i) (cell-in k s j) (s .bench .proved) in
-    same-state
+      let rs = same-results (s .shelf) i j x p q in
+      let D = dues (has-empty (results-at k s i j x)) (cell-in k s i) (cell-in k s j) (s .bench .proved) in
+      same-state
       (ap₂ bench-by (m ∙ ap (λ (y : Dues). s .bench .impossible || (has-empty (results-at k s i j x) && is-hard (y .common))) e) (ap (λ (y : Dues). y .proved) e))
       (h ∙ ap (λ (y : Dues). shown-by (y .left-at-i) (y .left-at-j) (resolvents-at (s .shelf) i j x wi wj)) e ∙ ap (shown-by (D .left-at-i) (D .left-at-j)) rs)
       (r ∙ ap (λ (y : Dues). rest (y .common) (y .left-at-i) (y .left-at-j) (resolvents-at (s .shelf) i j x wi wj)) e ∙ ap (rest (D .common) (D .left-at-i) (D .left-at-j)) rs)

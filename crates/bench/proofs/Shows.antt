@@ -49,7 +49,8 @@ module _ (k : Scale) (s : State) (x : List ℕ) (a₁ : ledger-long s ≡ true) 
     pub show-pass : (b : Bill) → Ok b ≡ billed k (s .bench .proved) (owed-in s x) 0
         → (passes ≡ first-no (show-questions k s x)) × (b .cost ≡ summed (s .bench .proved) (owed-in s x)) × (b .count ≡ length (owed-in s x))
     show-pass b r =
-      let q = told-ok reply (record { cost = summed (s .bench .proved) (owed-in s x); count = 0 + length (owed-in s x) }) b r in
-      ( ap (λ (y : Reply). after-reply 13 y passes) (sym (q .0)) ∙ yes 8 (met && not (s .bench .impossible)) _ both ∙ asked
-      , ap (λ (y : Bill). y .cost) (q .1)
-      , ap (λ (y : Bill). y .count) (q .1) ∙ zero-add (length (owed-in s x)) )
+        let q = told-ok reply (record { cost = summed (s .bench .proved) (owed-in s x); count = 0 + length (owed-in s x) }) b r in (
+          ap (λ (y : Reply). after-reply 13 y passes) (sym (q .0)) ∙ yes 8 (met && not (s .bench .impossible)) _ both ∙ asked,
+          ap (λ (y : Bill). y .cost) (q .1),
+          ap (λ (y : Bill). y .count) (q .1) ∙ zero-add (length (owed-in s x)),
+        )

@@ -54,8 +54,8 @@ module _ (k : Scale) (s : State) (p : ℕ) (xs : List ℤ) (cs : List ℕ) where
 
     pub soft-pass : (w : List ℤ) → Ok w ≡ told a e → (passes ≡ first-no (soft-questions k s p xs cs)) × (w ≡ paid (none cs) (soft xs) (s .bench .proved))
     soft-pass w r =
-      let q = told-ok reply (paid (none cs) (soft xs) (s .bench .proved)) w (r ∙ told-here) in
-      (ap (λ (y : Reply). after-reply 13 y passes) (sym (q .0)) ∙ asked, q .1)
+        let q = told-ok reply (paid (none cs) (soft xs) (s .bench .proved)) w (r ∙ told-here) in
+        (ap (λ (y : Reply). after-reply 13 y passes) (sym (q .0)) ∙ asked, q .1)
 
 -- the case with the sums of a soft clause
 pub soft-sums : (b : Case) (xs t z : List ℤ) (cs : List ℕ) → t ≡ plus (b .total) xs → z ≡ paid (none cs) (soft xs) (b .proved) → with-sums b t z ≡ with-sums b (plus (b .total) xs) (paid (none cs) (soft xs) (b .proved))

@@ -2,6 +2,7 @@
 --
 --   phase-of, case-of   the rules' phase and case of a bench
 --   state-of     the whole state: a bench, what the shelf means, and the ledger
+--   state-at     the same from the references that a call is passed
 --   granted-told, shown-told, cheapest-told   the rules' answer of a result
 --   Done         what a call did: the shelf in order after, the answer and the
 --                state after those of an outcome
@@ -10,6 +11,7 @@ use mathlib.Core.List.{List}
 use mathlib.Core.Path.{_≡_}
 use Prim.Native.Nat.{ℕ}
 use lib.IntN.{ℤ}
+use denote.Ref.{RefT, now}
 use Rattle.std.specs.declared.option.Option.{Option}
 use Rattle.std.specs.declared.option.Option.the-variants.{Some, None}
 use Rattle.std.specs.declared.result.Result.{Result}
@@ -51,6 +53,10 @@ case-of k b = record {
 
 abbrev pub state-of : {K A W : Type 0} → Kind A W → Bench K A W → View → List (Cell W) → rules.State
 state-of k b v l = record { bench = case-of k b; shelf = v; ledger = cells-of k l }
+
+-- the same from the references that a call is passed
+abbrev pub state-at : {S K A W : Type 0} → Kind A W → (S → View) → RefT (Bench K A W) → RefT S → RefT (List (Cell W)) → rules.State
+state-at k view b s l = state-of k (now b) (view (now s)) (now l)
 
 abbrev pub granted-told : Result (Unit {0}) Fault → Answer
 granted-told (Ok u) = granted

@@ -24,11 +24,11 @@ module _ (V : ℕ) (cs : List ℕ) (b k : ℕ) (t : Bool) (so-far : rises V b (d
 
   pub rises-high : k < length cs → V < getD cs k 0 / 2 → false ≡ t
   rises-high h l =
-    sym (and-right (ltb b here) (leb here V && rises V here (drop (k + 1) cs)) (and-left (leb here V) (rises V here (drop (k + 1) cs)) (lt-leb here V l))) ∙ turn h
+      sym (and-right (ltb b here) (leb here V && rises V here (drop (k + 1) cs)) (and-left (leb here V) (rises V here (drop (k + 1) cs)) (lt-leb here V l))) ∙ turn h
 
   pub rises-more : k < length cs → b < getD cs k 0 / 2 → getD cs k 0 / 2 ≤ V → rises V (getD cs k 0 / 2) (drop (k + 1) cs) ≡ t
   rises-more h l m =
-    ap (λ (x : Bool). x && rises V here (drop (k + 1) cs)) (sym (le-leb here V m)) ∙ ap (λ (x : Bool). x && (leb here V && rises V here (drop (k + 1) cs))) (sym (lt-ltb b here l)) ∙ turn h
+      ap (λ (x : Bool). x && rises V here (drop (k + 1) cs)) (sym (le-leb here V m)) ∙ ap (λ (x : Bool). x && (leb here V && rises V here (drop (k + 1) cs))) (sym (lt-ltb b here l)) ∙ turn h
 
   pub rises-done : length cs ≤ k → true ≡ t
   unfolding rises

@@ -13,7 +13,11 @@ pub fn copy_codes(clause: &[Literal], out: &mut [u32; 255]) -> usize
     ensures count { λ n. ⌜ n ≡ min (length (now (clause .entry))) 255 ⌝ }
     ensures is { λ n. ⌜ take n (now (out .exit)) ≡ take n (codes-of (now (clause .entry))) ⌝ }
 {
-    let n = if clause.len() < 255 { clause.len() } else { 255 };
+    let n = if clause.len() < 255 {
+        clause.len()
+    } else {
+        255
+    };
     for k in 0..n {
         out[k] = clause[k].code;
     }

@@ -34,7 +34,11 @@ pub fn makes_literal_true(strip: &[u8], literal: Literal) -> bool
     ensures { λ r. ⌜ r ≡ makes-true (now (strip .entry)) (literal .code) ⌝ }
 {
     let v = literal.variable() as usize;
-    if literal.code % 2 == 0 { value_of(strip, v) == 1 } else { value_of(strip, v) != 1 }
+    if literal.code % 2 == 0 {
+        value_of(strip, v) == 1
+    } else {
+        value_of(strip, v) != 1
+    }
 }
 
 // Whether the plan makes some literal at the place true.

@@ -34,15 +34,15 @@ module _ (x : List ℕ) (held : List (List ℕ)) (ks : List Cell) (p : ℕ) (d :
   pub owed-turn : owed x (drop p held) (drop p ks) ≡ prepend (owing x (getD held p []) (getD ks p d)) (owed x (drop (p + 1) held) (drop (p + 1) ks))
   unfolding owed
   owed-turn =
-    ap (λ (hs : List (List ℕ)). owed x hs (drop p ks)) (drop-more held p [] in-held)
-    ∙ ap (λ (l : List Cell). owed x (getD held p [] ∷ drop (p + 1) held) l) (drop-more ks p d in-ledger)
-    ∙ owed-at-is x (getD held p []) (getD ks p d) (owed x (drop (p + 1) held) (drop (p + 1) ks))
+      ap (λ (hs : List (List ℕ)). owed x hs (drop p ks)) (drop-more held p [] in-held)
+      ∙ ap (λ (l : List Cell). owed x (getD held p [] ∷ drop (p + 1) held) l) (drop-more ks p d in-ledger)
+      ∙ owed-at-is x (getD held p []) (getD ks p d) (owed x (drop (p + 1) held) (drop (p + 1) ks))
 
   pub met-turn : hard-met x (drop p held) (drop p ks) ≡ (met-at x (getD held p []) (getD ks p d) && hard-met x (drop (p + 1) held) (drop (p + 1) ks))
   unfolding hard-met
   met-turn =
-    ap (λ (hs : List (List ℕ)). hard-met x hs (drop p ks)) (drop-more held p [] in-held)
-    ∙ ap (λ (l : List Cell). hard-met x (getD held p [] ∷ drop (p + 1) held) l) (drop-more ks p d in-ledger)
+      ap (λ (hs : List (List ℕ)). hard-met x hs (drop p ks)) (drop-more held p [] in-held)
+      ∙ ap (λ (l : List Cell). hard-met x (getD held p [] ∷ drop (p + 1) held) l) (drop-more ks p d in-ledger)
 
   -- the place adds nothing
   pub owed-none : None ≡ owing x (getD held p []) (getD ks p d) → owed x (drop p held) (drop p ks) ≡ owed x (drop (p + 1) held) (drop (p + 1) ks)

@@ -27,8 +27,13 @@ fn free_or_met<S: Shelf>(shelf: &S, place: usize, strip: &[u8]) -> bool
 }
 
 // Whether the plan meets the clause at a place if it is hard.
-fn met_if_hard<K: CostKind, S: Shelf>(shelf: &S, ledger: &[Cell<K::Row>], place: usize, strip: &[u8]) -> bool
-    ensures { λ r. ⌜ (S·Shelf .fine (now (shelf .entry)) → r ≡ met-at (now (strip .entry)) (clause (S·Shelf .view (now (shelf .entry))) place) (cell-at (K·CostKind .kind .scale .tiers) (cells-of (K·CostKind .kind) (now (ledger .entry))) place)) ⌝ }
+fn met_if_hard<K: CostKind, S: Shelf>(
+    shelf: &S,
+    ledger: &[Cell<K::Row>],
+    place: usize,
+    strip: &[u8],
+) -> bool
+    ensures { λ r. ⌜ (fine (now (shelf .entry)) → r ≡ met-at (now (strip .entry)) (clause (view (now (shelf .entry))) place) (cell-at (kind .scale .tiers) (cells-of kind (now (ledger .entry))) place)) ⌝ }
 {
     match read_cell::<K>(ledger, place) {
         Cell::Hard => free_or_met(shelf, place, strip),
@@ -37,8 +42,13 @@ fn met_if_hard<K: CostKind, S: Shelf>(shelf: &S, ledger: &[Cell<K::Row>], place:
 }
 
 // What a place adds to the plan's cost, if anything.
-fn amount_owed<K: CostKind, S: Shelf>(shelf: &S, ledger: &[Cell<K::Row>], place: usize, strip: &[u8]) -> Option<K::Amount>
-    ensures { λ r. ⌜ (S·Shelf .fine (now (shelf .entry)) → amount-told (K·CostKind .kind .figures) r ≡ owing (now (strip .entry)) (clause (S·Shelf .view (now (shelf .entry))) place) (cell-at (K·CostKind .kind .scale .tiers) (cells-of (K·CostKind .kind) (now (ledger .entry))) place)) ⌝ }
+fn amount_owed<K: CostKind, S: Shelf>(
+    shelf: &S,
+    ledger: &[Cell<K::Row>],
+    place: usize,
+    strip: &[u8],
+) -> Option<K::Amount>
+    ensures { λ r. ⌜ (fine (now (shelf .entry)) → amount-told (kind .figures) r ≡ owing (now (strip .entry)) (clause (view (now (shelf .entry))) place) (cell-at (kind .scale .tiers) (cells-of kind (now (ledger .entry))) place)) ⌝ }
 {
     match read_cell::<K>(ledger, place) {
         Cell::Hard => None,
@@ -55,7 +65,7 @@ fn amount_owed<K: CostKind, S: Shelf>(shelf: &S, ledger: &[Cell<K::Row>], place:
 // Whether the plan meets every hard clause on the shelf; the ledger has a cell for
 // each place.
 pub fn meets_hard<K: CostKind, S: Shelf>(shelf: &S, ledger: &[Cell<K::Row>], strip: &[u8]) -> bool
-    ensures { λ r. ⌜ (S·Shelf .fine (now (shelf .entry)) → S·Shelf .view (now (shelf .entry)) .places ≤ length (now (ledger .entry)) → r ≡ hard-met (now (strip .entry)) (S·Shelf .view (now (shelf .entry)) .held) (cells-of (K·CostKind .kind) (now (ledger .entry)))) ⌝ }
+    ensures { λ r. ⌜ (fine (now (shelf .entry)) → view (now (shelf .entry)) .places ≤ length (now (ledger .entry)) → r ≡ hard-met (now (strip .entry)) (view (now (shelf .entry)) .held) (cells-of kind (now (ledger .entry)))) ⌝ }
 {
     let count = shelf.place_count();
     for p in 0..count {
@@ -68,8 +78,13 @@ pub fn meets_hard<K: CostKind, S: Shelf>(shelf: &S, ledger: &[Cell<K::Row>], str
 
 // The proved cost with the amounts of the soft clauses that the plan leaves unmet,
 // and how many they are; the ledger has a cell for each place.
-pub fn bill<K: CostKind, S: Shelf>(shelf: &S, ledger: &[Cell<K::Row>], strip: &[u8], proved: K::Amount) -> Result<(K::Amount, usize), Tier>
-    ensures { λ r. ⌜ (S·Shelf .fine (now (shelf .entry)) → S·Shelf .view (now (shelf .entry)) .places ≤ length (now (ledger .entry)) → bill-told (K·CostKind .kind .figures) r ≡ billed (K·CostKind .kind .scale) (K·CostKind .kind .figures proved) (owed (now (strip .entry)) (S·Shelf .view (now (shelf .entry)) .held) (cells-of (K·CostKind .kind) (now (ledger .entry)))) 0) ⌝ }
+pub fn bill<K: CostKind, S: Shelf>(
+    shelf: &S,
+    ledger: &[Cell<K::Row>],
+    strip: &[u8],
+    proved: K::Amount,
+) -> Result<(K::Amount, usize), Tier>
+    ensures { λ r. ⌜ (fine (now (shelf .entry)) → view (now (shelf .entry)) .places ≤ length (now (ledger .entry)) → bill-told (kind .figures) r ≡ billed (kind .scale) (kind .figures proved) (owed (now (strip .entry)) (view (now (shelf .entry)) .held) (cells-of kind (now (ledger .entry)))) 0) ⌝ }
 {
     let mut cost = proved;
     let mut unmet: usize = 0;

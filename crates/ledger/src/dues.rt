@@ -29,7 +29,11 @@ fn less<K: CostKind>(a: Cell<K::Amount>, m: Cell<K::Amount>) -> Result<Cell<K::A
 }
 
 // The proved cost with m, where there is an empty clause with the cell m.
-pub fn paid<K: CostKind>(proved: K::Amount, empty: bool, m: Cell<K::Amount>) -> Result<K::Amount, Tier>
+pub fn paid<K: CostKind>(
+    proved: K::Amount,
+    empty: bool,
+    m: Cell<K::Amount>,
+) -> Result<K::Amount, Tier>
     ensures { λ r. ⌜ meant (kind .figures) r ≡ told-by (reach-reply (kind .scale) (paid-news empty (cell-of (kind .figures) m) (kind .figures proved))) (paid-of empty (cell-of (kind .figures) m) (kind .figures proved)) ⌝ }
 {
     if !empty {
@@ -43,12 +47,22 @@ pub fn paid<K: CostKind>(proved: K::Amount, empty: bool, m: Cell<K::Amount>) -> 
 
 // The amounts after a resolve of places with the cells a and b: what is left at i,
 // at j, then the proved cost, where `empty` says that a result is empty.
-pub fn weigh<K: CostKind>(empty: bool, a: Cell<K::Amount>, b: Cell<K::Amount>, proved: K::Amount) -> Result<Weighed<K::Amount>, Tier>
+pub fn weigh<K: CostKind>(
+    empty: bool,
+    a: Cell<K::Amount>,
+    b: Cell<K::Amount>,
+    proved: K::Amount,
+) -> Result<Weighed<K::Amount>, Tier>
     ensures { λ r. ⌜ dues-told (kind .figures) r ≡ told-by (reach-reply (kind .scale) (resolve-news empty (cell-of (kind .figures) a) (cell-of (kind .figures) b) (kind .figures proved))) (dues empty (cell-of (kind .figures) a) (cell-of (kind .figures) b) (kind .figures proved)) ⌝ }
 {
     let common = smaller::<K>(a, b);
     let left_i = less::<K>(a, common)?;
     let left_j = less::<K>(b, common)?;
     let proved = paid::<K>(proved, empty, common)?;
-    Ok(Weighed { common, left_i, left_j, proved })
+    Ok(Weighed {
+        common,
+        left_i,
+        left_j,
+        proved,
+    })
 }

@@ -23,7 +23,12 @@ use rows::RowShelfShelf;
 // Opens a case on a row shelf that any earlier cases have used. Once it is granted
 // every word of every place is 0 and every cell, spare ones too, is the row of
 // nothing: nothing of an earlier case is left.
-pub fn reopen_rows<K: CostKind>(bench: &mut Bench<K>, shelf: &mut RowShelf, ledger: &mut [Cell<K::Row>], n: u16) -> Result<(), Fault>
+pub fn reopen_rows<K: CostKind>(
+    bench: &mut Bench<K>,
+    shelf: &mut RowShelf,
+    ledger: &mut [Cell<K::Row>],
+    n: u16,
+) -> Result<(), Fault>
     ensures did { λ r. ⌜ (in-order (now (shelf .entry)) → Done (in-order (now (shelf .exit))) (granted-told r) (state-of kind (now (bench .exit)) (meaning (now (shelf .exit))) (now (ledger .exit))) (open-does (kind .scale) (state-of kind (now (bench .entry)) (meaning (now (shelf .entry))) (now (ledger .entry))) n)) ⌝ }
     ensures words { λ r. ⌜ (in-order (now (shelf .entry)) → Blank r (words-of (now (shelf .exit))) (now (shelf .exit) .places) (now (shelf .exit) .longest)) ⌝ }
     ensures cells { λ r. ⌜ If-granted r ((a : K·Amount) → kind .figures a ≡ zeros (kind .scale .tiers) → now (ledger .exit) ≡ replicate (length (now (ledger .entry))) (SoftCell (kind .row a))) ⌝ }
@@ -32,7 +37,13 @@ pub fn reopen_rows<K: CostKind>(bench: &mut Bench<K>, shelf: &mut RowShelf, ledg
 }
 
 // Makes a row shelf over the words and a bench, and opens a case: no premise is left.
-pub fn open_rows<K: CostKind>(words: &mut [u32], highest: usize, longest: usize, ledger: &mut [Cell<K::Row>], n: u16) -> Result<(), Fault>
+pub fn open_rows<K: CostKind>(
+    words: &mut [u32],
+    highest: usize,
+    longest: usize,
+    ledger: &mut [Cell<K::Row>],
+    n: u16,
+) -> Result<(), Fault>
     ensures answer { λ r. ⌜ granted-told r ≡ open-does (kind .scale) (new-state (kind .scale) (made-view (length (now (words .entry))) highest longest) (cells-of kind (now (ledger .entry)))) n .answer ⌝ }
     ensures ledger { λ r. ⌜ cells-of kind (now (ledger .exit)) ≡ open-does (kind .scale) (new-state (kind .scale) (made-view (length (now (words .entry))) highest longest) (cells-of kind (now (ledger .entry)))) n .after .ledger ⌝ }
 {

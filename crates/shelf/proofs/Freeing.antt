@@ -13,14 +13,16 @@ use Rattle.std.proofs.shelf.Tests.{cases-eq, cases-lt}
 pub freed-here : (xs : List (List ℕ)) (p : ℕ) → getD (set xs p []) p [] ≡ []
 freed-here xs p =
     elim (cases-lt p (length xs)) [
-      inl h ↦ getD-set-same xs p [] [] h
-    | inr h ↦ ap (λ (ys : List (List ℕ)). getD ys p []) (set-past xs p [] h) ∙ getD-past xs p [] h ]
+      | inl h ↦ getD-set-same xs p [] [] h
+      | inr h ↦ ap (λ (ys : List (List ℕ)). getD ys p []) (set-past xs p [] h) ∙ getD-past xs p [] h
+    ]
 
 pub freed-more : (xs : List (List ℕ)) (p : ℕ) → ((k : ℕ) → k < p → getD xs k [] ≡ []) → (k : ℕ) → k < p + 1 → getD (set xs p []) k [] ≡ []
 freed-more xs p below k h =
     elim (cases-eq k p) [
-      inl e ↦ ap (λ (j : ℕ). getD (set xs p []) j []) e ∙ freed-here xs p
-    | inr ne ↦ getD-set-other xs p k [] [] ne ∙ below k (omega arith) ]
+      | inl e ↦ ap (λ (j : ℕ). getD (set xs p []) j []) e ∙ freed-here xs p
+      | inr ne ↦ getD-set-other xs p k [] [] ne ∙ below k (omega arith)
+    ]
 
 pub freed-all : (xs : List (List ℕ)) (n : ℕ) → length xs ≡ n → ((k : ℕ) → k < n → getD xs k [] ≡ []) → xs ≡ replicate n []
 freed-all xs n e all =
@@ -35,7 +37,7 @@ pub freed-step : {v w w' : View} {p : ℕ} → Freed v w p → w' ≡ after-wipe
 freed-step {v = v} {w = w} {w' = w'} {p = p} f e =
     record {
       frame = e ∙ ap (λ (x : View). with-held x (set (w .held) p [])) (f .frame) ∙ ap (λ (x : View). with-held v (x .held)) (sym e);
-      below = λ k h. ap (λ (x : View). clause x k) e ∙ freed-more (w .held) p (f .below) k h
+      below = λ k h. ap (λ (x : View). clause x k) e ∙ freed-more (w .held) p (f .below) k h;
     }
 
 pub freed-done : {v w : View} {p : ℕ} → Freed v w p → Sound w → v .places ≤ p → w ≡ emptied v

@@ -27,16 +27,16 @@ module _ (top : ℕ) where
   unfolding stands
   stands-not b [] c ys r = refl
   stands-not b (x ∷ xs) c ys r =
-    let h = later (x / 2) xs c ys (r .2) .0 in
-    or-from (eqb (x / 2) (c / 2)) (stands (c / 2) xs) (ne-eqb (x / 2) (c / 2) (λ e. omega arith)) (stands-not (x / 2) xs c ys (r .2))
+      let h = later (x / 2) xs c ys (r .2) .0 in
+      or-from (eqb (x / 2) (c / 2)) (stands (c / 2) xs) (ne-eqb (x / 2) (c / 2) (λ e. omega arith)) (stands-not (x / 2) xs c ys (r .2))
 
   put-last : (b : ℕ) (xs : List ℕ) (c : ℕ) (ys : List ℕ) → Rising top b (xs ++ c ∷ ys) → put c xs ≡ xs ++ c ∷ []
   unfolding put
   put-last b [] c ys r = refl
   put-last b (x ∷ xs) c ys r =
-    let h = later (x / 2) xs c ys (r .2) .0 in
-    let l : x ≤ c = omega arith in
-    rw (le-ltb c x l) (ap (λ (z : List ℕ). x ∷ z) (put-last (x / 2) xs c ys (r .2)))
+      let h = later (x / 2) xs c ys (r .2) .0 in
+      let l : x ≤ c = omega arith in
+      rw (le-ltb c x l) (ap (λ (z : List ℕ). x ∷ z) (put-last (x / 2) xs c ys (r .2)))
 
 -- the first k codes are written
 abbrev pub part : View → ℕ → List ℕ → ℕ → View
@@ -68,7 +68,7 @@ part-more {v = v} {p = p} {cs = cs} {k = k} {w = w} {w′ = w′} s a h e f =
     let m₁ : length xs < v .longest = omega (arith, a .short) in
     let here : clause (part v p cs k) p ≡ xs = getD-set-same (v .held) p xs [] l in
     let ok : added (part v p cs k) p c ≡ Ok tt =
-      rw (i, le-leb 1 (c / 2) u₀, le-leb (c / 2) (v .highest) (u .1), here, stands-not (v .highest) 0 xs c ys r, lt-ltb (length xs) (v .longest) m₁) in
+    rw (i, le-leb 1 (c / 2) u₀, le-leb (c / 2) (v .highest) (u .1), here, stands-not (v .highest) 0 xs c ys r, lt-ltb (length xs) (v .longest) m₁) in
     let more : put c xs ≡ take (k + 1) cs = put-last (v .highest) 0 xs c ys r ∙ sym (take-more cs k 0 h) in
     f ∙ ap (λ (z : View). after-add z p c) e
     ∙ ap (λ (t : Result (Unit {0}) ℕ). with-held v (cond (isOk t) (set (set (v .held) p xs) p (put c (clause (part v p cs k) p))) (set (v .held) p xs))) ok
@@ -115,8 +115,9 @@ has-codes v p n h (c ∷ cs) e = ap not (ne-eqb n 0 (λ z. let k : suc (length c
 pub filled-size : (v : View) (p n : ℕ) → Sound v → n ≡ length (clause v p) → not (eqb n 0) ≡ filled v p
 filled-size v p n s e =
     elim (cases-lt p (v .places)) [
-      inl h ↦ has-codes v p n (lt-ltb p (v .places) h) (clause v p) e
-    | inr h ↦
-      let l : length (v .held) ≤ p = omega (arith, s .count) in
-      let past : clause v p ≡ [] = getD-past (v .held) p [] l in
-      ap (λ (k : ℕ). not (eqb k 0)) (e ∙ ap length past) ∙ sym (and-left (ltb p (v .places)) (not (none (clause v p))) (le-ltb p (v .places) h)) ]
+      | inl h ↦ has-codes v p n (lt-ltb p (v .places) h) (clause v p) e
+      | inr h ↦
+          let l : length (v .held) ≤ p = omega (arith, s .count) in
+          let past : clause v p ≡ [] = getD-past (v .held) p [] l in
+          ap (λ (k : ℕ). not (eqb k 0)) (e ∙ ap length past) ∙ sym (and-left (ltb p (v .places)) (not (none (clause v p))) (le-ltb p (v .places) h))
+    ]

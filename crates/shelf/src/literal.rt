@@ -15,14 +15,18 @@ impl Literal {
     pub fn of(variable: u16) -> Literal
         ensures { λ r. ⌜ r .code ≡ 2 * variable ⌝ }
     {
-        Literal { code: 2 * variable as u32 }
+        Literal {
+            code: 2 * variable as u32,
+        }
     }
 
     // The literal that is true where the variable is not.
     pub fn not(variable: u16) -> Literal
         ensures { λ r. ⌜ r .code ≡ 2 * variable + 1 ⌝ }
     {
-        Literal { code: 2 * variable as u32 + 1 }
+        Literal {
+            code: 2 * variable as u32 + 1,
+        }
     }
 
     pub fn variable(self) -> u32
@@ -35,9 +39,13 @@ impl Literal {
         ensures { λ r. ⌜ r .code ≡ opposite-of (self .code) ⌝ }
     {
         if self.code % 2 == 0 {
-            Literal { code: self.code + 1 }
+            Literal {
+                code: self.code + 1,
+            }
         } else {
-            Literal { code: self.code - 1 }
+            Literal {
+                code: self.code - 1,
+            }
         }
     }
 }

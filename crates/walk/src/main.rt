@@ -40,7 +40,12 @@ fn print_refusal(rt: &LibcRuntime, fault: Fault) -> io::Result<()> {
 }
 
 // Prints a call that answers only that it is granted.
-fn tell(rt: &LibcRuntime, asked: &str, answer: Result<(), Fault>, bench: &Bench<Slots>) -> io::Result<()> {
+fn tell(
+    rt: &LibcRuntime,
+    asked: &str,
+    answer: Result<(), Fault>,
+    bench: &Bench<Slots>,
+) -> io::Result<()> {
     println!(rt, "{asked}")?;
     match answer {
         Ok(()) => println!(rt, "    granted")?,
@@ -50,7 +55,12 @@ fn tell(rt: &LibcRuntime, asked: &str, answer: Result<(), Fault>, bench: &Bench<
 }
 
 // Prints what a show answered.
-fn tell_shown(rt: &LibcRuntime, asked: &str, answer: Result<(Slots, usize), Fault>, bench: &Bench<Slots>) -> io::Result<()> {
+fn tell_shown(
+    rt: &LibcRuntime,
+    asked: &str,
+    answer: Result<(Slots, usize), Fault>,
+    bench: &Bench<Slots>,
+) -> io::Result<()> {
     println!(rt, "{asked}")?;
     match answer {
         Ok(shown) => {
@@ -65,7 +75,12 @@ fn tell_shown(rt: &LibcRuntime, asked: &str, answer: Result<(Slots, usize), Faul
 }
 
 // Prints what a claim of cheapest answered.
-fn tell_claim(rt: &LibcRuntime, asked: &str, answer: Result<Slots, Fault>, bench: &Bench<Slots>) -> io::Result<()> {
+fn tell_claim(
+    rt: &LibcRuntime,
+    asked: &str,
+    answer: Result<Slots, Fault>,
+    bench: &Bench<Slots>,
+) -> io::Result<()> {
     println!(rt, "{asked}")?;
     match answer {
         Ok(cost) => {
@@ -79,29 +94,80 @@ fn tell_claim(rt: &LibcRuntime, asked: &str, answer: Result<Slots, Fault>, bench
 }
 
 // Opens the case and gives its clauses.
-fn fill(rt: &LibcRuntime, bench: &mut Bench<Slots>, shelf: &mut RowShelf, ledger: &mut [Cell<SlotsRow>]) -> io::Result<()> {
+fn fill(
+    rt: &LibcRuntime,
+    bench: &mut Bench<Slots>,
+    shelf: &mut RowShelf,
+    ledger: &mut [Cell<SlotsRow>],
+) -> io::Result<()> {
     let answer = bench.open(shelf, ledger, 3);
     tell(rt, "open a case of 3 variables", answer, bench)?;
     let answer = bench.hard(shelf, ledger, 0, &[Literal::not(2), Literal::of(3)]);
-    tell(rt, "hard at place 0: -2 3 (a parcel that rides along needs the dock)", answer, bench)?;
+    tell(
+        rt,
+        "hard at place 0: -2 3 (a parcel that rides along needs the dock)",
+        answer,
+        bench,
+    )?;
     let answer = bench.soft(shelf, ledger, 1, &[0, 30], &[Literal::of(1)]);
-    tell(rt, "soft at place 1: 1, else 0 slots 30 minutes (the van runs)", answer, bench)?;
-    let answer = bench.soft(shelf, ledger, 2, &[0, 20], &[Literal::not(1), Literal::of(2)]);
-    tell(rt, "soft at place 2: -1 2, else 0 slots 20 minutes (the van takes the parcel)", answer, bench)?;
+    tell(
+        rt,
+        "soft at place 1: 1, else 0 slots 30 minutes (the van runs)",
+        answer,
+        bench,
+    )?;
+    let answer = bench.soft(
+        shelf,
+        ledger,
+        2,
+        &[0, 20],
+        &[Literal::not(1), Literal::of(2)],
+    );
+    tell(
+        rt,
+        "soft at place 2: -1 2, else 0 slots 20 minutes (the van takes the parcel)",
+        answer,
+        bench,
+    )?;
     let answer = bench.soft(shelf, ledger, 3, &[1, 0], &[Literal::not(3)]);
-    tell(rt, "soft at place 3: -3, else 1 slot 0 minutes (the dock stays free)", answer, bench)?;
+    tell(
+        rt,
+        "soft at place 3: -3, else 1 slot 0 minutes (the dock stays free)",
+        answer,
+        bench,
+    )?;
     let answer = bench.seal(shelf, ledger);
     tell(rt, "seal", answer, bench)
 }
 
 // Makes the steps of the log, each a resolve.
-fn resolve_all(rt: &LibcRuntime, bench: &mut Bench<Slots>, shelf: &mut RowShelf, ledger: &mut [Cell<SlotsRow>]) -> io::Result<()> {
+fn resolve_all(
+    rt: &LibcRuntime,
+    bench: &mut Bench<Slots>,
+    shelf: &mut RowShelf,
+    ledger: &mut [Cell<SlotsRow>],
+) -> io::Result<()> {
     let answer = bench.resolve(shelf, ledger, 1, 2, 1, 4);
-    tell(rt, "resolve places 1 and 2 on variable 1, results from place 4", answer, bench)?;
+    tell(
+        rt,
+        "resolve places 1 and 2 on variable 1, results from place 4",
+        answer,
+        bench,
+    )?;
     let answer = bench.resolve(shelf, ledger, 4, 0, 2, 6);
-    tell(rt, "resolve places 4 and 0 on variable 2, results from place 6", answer, bench)?;
+    tell(
+        rt,
+        "resolve places 4 and 0 on variable 2, results from place 6",
+        answer,
+        bench,
+    )?;
     let answer = bench.resolve(shelf, ledger, 6, 3, 3, 2);
-    tell(rt, "resolve places 6 and 3 on variable 3, results from place 2", answer, bench)
+    tell(
+        rt,
+        "resolve places 6 and 3 on variable 3, results from place 2",
+        answer,
+        bench,
+    )
 }
 
 // Eight places of up to three literals over three variables, and a cell for each.
@@ -112,9 +178,19 @@ fn main(rt: LibcRuntime) -> io::Result<()> {
     let mut bench = Bench::<Slots>::new();
     fill(&rt, &mut bench, &mut shelf, &mut ledger)?;
     let answer = bench.show(&shelf, &ledger, &[1, 0, 0]);
-    tell_shown(&rt, "show the plan 1 0 0 (the van runs without the parcel)", answer, &bench)?;
+    tell_shown(
+        &rt,
+        "show the plan 1 0 0 (the van runs without the parcel)",
+        answer,
+        &bench,
+    )?;
     let answer = bench.cheapest(&shelf, &ledger);
-    tell_claim(&rt, "claim cheapest, before the log has proved it", answer, &bench)?;
+    tell_claim(
+        &rt,
+        "claim cheapest, before the log has proved it",
+        answer,
+        &bench,
+    )?;
     resolve_all(&rt, &mut bench, &mut shelf, &mut ledger)?;
     let answer = bench.cheapest(&shelf, &ledger);
     tell_claim(&rt, "claim cheapest", answer, &bench)

@@ -21,8 +21,11 @@ use shelf::literal::Literal;
 use shelf::store::Shelf;
 
 // Question 1: whether the ledger has a cell for each place.
-pub(crate) fn ledger_is_long_enough<K: CostKind, S: Shelf>(shelf: &S, ledger: &[Cell<K::Row>]) -> bool
-    ensures { λ r. ⌜ (S·Shelf .fine (now (shelf .entry)) → r ≡ leb (S·Shelf .view (now (shelf .entry)) .places) (length (cells-of (K·CostKind .kind) (now (ledger .entry))))) ⌝ }
+pub(crate) fn ledger_is_long_enough<K: CostKind, S: Shelf>(
+    shelf: &S,
+    ledger: &[Cell<K::Row>],
+) -> bool
+    ensures { λ r. ⌜ (fine (now (shelf .entry)) → r ≡ leb (view (now (shelf .entry)) .places) (length (cells-of kind (now (ledger .entry))))) ⌝ }
 {
     shelf.place_count() <= ledger.len()
 }
@@ -63,12 +66,21 @@ pub(crate) fn known_variables<S: Shelf>(shelf: &S, n: u16) -> usize
     ensures { λ r. ⌜ (fine (now (shelf .entry)) → r ≡ known n (view (now (shelf .entry)))) ⌝ }
 {
     let highest = shelf.highest_variable();
-    if (n as usize) < highest { n as usize } else { highest }
+    if (n as usize) < highest {
+        n as usize
+    } else {
+        highest
+    }
 }
 
 // Question 4: the codes of a clause copied to the front of `out`, if its variables
 // rise, each from 1 to n, and are not too many for a place.
-pub(crate) fn take_clause<S: Shelf>(shelf: &S, n: u16, clause: &[Literal], out: &mut [u32; 255]) -> Option<usize>
+pub(crate) fn take_clause<S: Shelf>(
+    shelf: &S,
+    n: u16,
+    clause: &[Literal],
+    out: &mut [u32; 255],
+) -> Option<usize>
     ensures low { λ r. ⌜ BySome r (Unit {0}) (λ m. m ≤ 255) ⌝ }
     ensures is { λ r. ⌜ (fine (now (shelf .entry)) → clause-told (now (out .exit)) r ≡ cond (clause-fits n (view (now (shelf .entry))) (codes-of (now (clause .entry)))) (Some (codes-of (now (clause .entry)))) None) ⌝ }
 {

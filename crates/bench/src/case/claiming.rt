@@ -4,7 +4,7 @@ ghost use Rattle.cost.specs.Kinds.{Kind};
 ghost use Rattle.rules.specs.Claims.{cheapest-questions, cheapest-does};
 ghost use Rattle.rules.specs.Questions.{first-no};
 ghost use Rattle.bench.specs.Asked.{verdict-told};
-ghost use Rattle.bench.specs.Meaning.{case-of, phase-of, state-of, cheapest-told, Done, If-refused};
+ghost use Rattle.bench.specs.Meaning.{case-of, phase-of, state-at, cheapest-told, Done, If-refused};
 use crate::case::Bench;
 use crate::case::Phase;
 use crate::fault::Fault;
@@ -29,7 +29,7 @@ impl<K: CostKind> Bench<K> {
     }
 
     fn ask_cheapest<S: Shelf>(&self, shelf: &S, ledger: &[Cell<K::Row>]) -> Result<(), Fault>
-        ensures { λ r. ⌜ (S·Shelf .fine (now (shelf .entry)) → verdict-told r ≡ first-no (cheapest-questions (state-of (K·CostKind .kind) (now (self .entry)) (S·Shelf .view (now (shelf .entry))) (now (ledger .entry))))) ⌝ }
+        ensures { λ r. ⌜ (fine (now (shelf .entry)) → verdict-told r ≡ first-no (cheapest-questions (state-at kind view (self .entry) (shelf .entry) (ledger .entry)))) ⌝ }
     {
         self.ask_step(shelf, ledger)?;
         match self.shown {
@@ -42,8 +42,12 @@ impl<K: CostKind> Bench<K> {
     }
 
     // Claims that the shown plan is cheapest: its cost. A granted claim closes the case.
-    pub fn cheapest<S: Shelf>(&mut self, shelf: &S, ledger: &[Cell<K::Row>]) -> Result<K::Amount, Fault>
-        ensures did { λ r. ⌜ (S·Shelf .fine (now (shelf .entry)) → Done (S·Shelf .fine (now (shelf .entry))) (cheapest-told (K·CostKind .kind .figures) r) (state-of (K·CostKind .kind) (now (self .exit)) (S·Shelf .view (now (shelf .entry))) (now (ledger .entry))) (cheapest-does (state-of (K·CostKind .kind) (now (self .entry)) (S·Shelf .view (now (shelf .entry))) (now (ledger .entry))))) ⌝ }
+    pub fn cheapest<S: Shelf>(
+        &mut self,
+        shelf: &S,
+        ledger: &[Cell<K::Row>],
+    ) -> Result<K::Amount, Fault>
+        ensures did { λ r. ⌜ (fine (now (shelf .entry)) → Done (fine (now (shelf .entry))) (cheapest-told (kind .figures) r) (state-at kind view (self .exit) (shelf .entry) (ledger .entry)) (cheapest-does (state-at kind view (self .entry) (shelf .entry) (ledger .entry)))) ⌝ }
         ensures refused { λ r. ⌜ If-refused r (now (self .exit) ≡ now (self .entry)) ⌝ }
     {
         self.ask_cheapest(shelf, ledger)?;

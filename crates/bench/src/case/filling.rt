@@ -14,7 +14,7 @@ ghost use Rattle.rules.specs.Questions.{first-no};
 ghost use Rattle.shelf.specs.Room.{Writable};
 ghost use Rattle.shelf.specs.View.{with-held};
 ghost use Rattle.bench.specs.Asked.{verdict-told, Copied, Put, Accepts};
-ghost use Rattle.bench.specs.Meaning.{case-of, state-of, granted-told, Done, If-refused, If-granted};
+ghost use Rattle.bench.specs.Meaning.{case-of, state-at, granted-told, Done, If-refused, If-granted};
 use crate::case::Bench;
 use crate::case::Phase;
 use crate::case::accepted::Accepted;
@@ -36,8 +36,14 @@ use shelf::places::write_codes;
 use shelf::store::Shelf;
 
 // Writes a clause to a free place, and its cell.
-fn put_clause<K: CostKind, S: Shelf>(shelf: &mut S, ledger: &mut [Cell<K::Row>], place: usize, codes: &[u32], cell: Cell<K::Amount>)
-    ensures { λ _. ⌜ (S·Shelf .fine (now (shelf .entry)) → Writable (S·Shelf .view (now (shelf .entry))) place (now (codes .entry)) → Put (S·Shelf .fine (now (shelf .exit))) (S·Shelf .view (now (shelf .exit))) (with-held (S·Shelf .view (now (shelf .entry))) (set (S·Shelf .view (now (shelf .entry)) .held) place (now (codes .entry)))) (cells-of (K·CostKind .kind) (now (ledger .exit))) (set (cells-of (K·CostKind .kind) (now (ledger .entry))) place (cell-of (K·CostKind .kind .figures) cell))) ⌝ }
+fn put_clause<K: CostKind, S: Shelf>(
+    shelf: &mut S,
+    ledger: &mut [Cell<K::Row>],
+    place: usize,
+    codes: &[u32],
+    cell: Cell<K::Amount>,
+)
+    ensures { λ _. ⌜ (fine (now (shelf .entry)) → Writable (view (now (shelf .entry))) place (now (codes .entry)) → Put (fine (now (shelf .exit))) (view (now (shelf .exit))) (with-held (view (now (shelf .entry))) (set (view (now (shelf .entry)) .held) place (now (codes .entry)))) (cells-of kind (now (ledger .exit))) (set (cells-of kind (now (ledger .entry))) place (cell-of (kind .figures) cell))) ⌝ }
 {
     write_codes(shelf, place, codes);
     write_cell::<K>(ledger, place, cell);
@@ -61,7 +67,7 @@ impl<K: CostKind> Bench<K> {
     }
 
     fn ask_open<S: Shelf>(&self, shelf: &S, ledger: &[Cell<K::Row>], n: u16) -> Result<(), Fault>
-        ensures { λ r. ⌜ (S·Shelf .fine (now (shelf .entry)) → verdict-told r ≡ first-no (open-questions (state-of (K·CostKind .kind) (now (self .entry)) (S·Shelf .view (now (shelf .entry))) (now (ledger .entry))) n)) ⌝ }
+        ensures { λ r. ⌜ (fine (now (shelf .entry)) → verdict-told r ≡ first-no (open-questions (state-at kind view (self .entry) (shelf .entry) (ledger .entry)) n)) ⌝ }
     {
         if !ledger_is_long_enough::<K, S>(shelf, ledger) {
             return Err(Fault::LedgerTooShort);
@@ -74,10 +80,15 @@ impl<K: CostKind> Bench<K> {
 
     // Drops any earlier case, wipes every place and every cell, and begins a case of n
     // variables.
-    pub fn open<S: Shelf>(&mut self, shelf: &mut S, ledger: &mut [Cell<K::Row>], n: u16) -> Result<(), Fault>
-        ensures did { λ r. ⌜ (S·Shelf .fine (now (shelf .entry)) → Done (S·Shelf .fine (now (shelf .exit))) (granted-told r) (state-of (K·CostKind .kind) (now (self .exit)) (S·Shelf .view (now (shelf .exit))) (now (ledger .exit))) (open-does (K·CostKind .kind .scale) (state-of (K·CostKind .kind) (now (self .entry)) (S·Shelf .view (now (shelf .entry))) (now (ledger .entry))) n)) ⌝ }
+    pub fn open<S: Shelf>(
+        &mut self,
+        shelf: &mut S,
+        ledger: &mut [Cell<K::Row>],
+        n: u16,
+    ) -> Result<(), Fault>
+        ensures did { λ r. ⌜ (fine (now (shelf .entry)) → Done (fine (now (shelf .exit))) (granted-told r) (state-at kind view (self .exit) (shelf .exit) (ledger .exit)) (open-does (kind .scale) (state-at kind view (self .entry) (shelf .entry) (ledger .entry)) n)) ⌝ }
         ensures refused { λ r. ⌜ If-refused r ((now (self .exit) ≡ now (self .entry)) × (now (shelf .exit) ≡ now (shelf .entry)) × (now (ledger .exit) ≡ now (ledger .entry))) ⌝ }
-        ensures cleared { λ r. ⌜ If-granted r ((a : K·Amount) → K·CostKind .kind .figures a ≡ zeros (K·CostKind .kind .scale .tiers) → now (ledger .exit) ≡ replicate (length (now (ledger .entry))) (SoftCell (K·CostKind .kind .row a))) ⌝ }
+        ensures cleared { λ r. ⌜ If-granted r ((a : K·Amount) → kind .figures a ≡ zeros (kind .scale .tiers) → now (ledger .exit) ≡ replicate (length (now (ledger .entry))) (SoftCell (kind .row a))) ⌝ }
     {
         self.ask_open(shelf, ledger, n)?;
         wipe_all(shelf);
@@ -95,10 +106,17 @@ impl<K: CostKind> Bench<K> {
 
     // What hard and soft are both asked: the clause's codes, copied to the front of
     // `out`, and how many they are.
-    fn ask_clause<S: Shelf>(&self, shelf: &S, ledger: &[Cell<K::Row>], place: usize, clause: &[Literal], out: &mut [u32; 255]) -> Result<usize, Fault>
+    fn ask_clause<S: Shelf>(
+        &self,
+        shelf: &S,
+        ledger: &[Cell<K::Row>],
+        place: usize,
+        clause: &[Literal],
+        out: &mut [u32; 255],
+    ) -> Result<usize, Fault>
         ensures low { λ r. ⌜ made r (λ m. m ≤ 255) ⌝ }
-        ensures is { λ r. ⌜ (S·Shelf .fine (now (shelf .entry)) → verdict-told r ≡ first-no (clause-questions (state-of (K·CostKind .kind) (now (self .entry)) (S·Shelf .view (now (shelf .entry))) (now (ledger .entry))) place (codes-of (now (clause .entry))))) ⌝ }
-        ensures copied { λ r. ⌜ (S·Shelf .fine (now (shelf .entry)) → Copied (now (out .exit)) (codes-of (now (clause .entry))) r) ⌝ }
+        ensures is { λ r. ⌜ (fine (now (shelf .entry)) → verdict-told r ≡ first-no (clause-questions (state-at kind view (self .entry) (shelf .entry) (ledger .entry)) place (codes-of (now (clause .entry))))) ⌝ }
+        ensures copied { λ r. ⌜ (fine (now (shelf .entry)) → Copied (now (out .exit)) (codes-of (now (clause .entry))) r) ⌝ }
     {
         if !ledger_is_long_enough::<K, S>(shelf, ledger) {
             return Err(Fault::LedgerTooShort);
@@ -119,8 +137,14 @@ impl<K: CostKind> Bench<K> {
 
     // Gives a clause that must be met. An empty one sets the impossible mark and uses
     // no place.
-    pub fn hard<S: Shelf>(&mut self, shelf: &mut S, ledger: &mut [Cell<K::Row>], place: usize, clause: &[Literal]) -> Result<(), Fault>
-        ensures did { λ r. ⌜ (S·Shelf .fine (now (shelf .entry)) → Done (S·Shelf .fine (now (shelf .exit))) (granted-told r) (state-of (K·CostKind .kind) (now (self .exit)) (S·Shelf .view (now (shelf .exit))) (now (ledger .exit))) (hard-does (K·CostKind .kind .scale) (state-of (K·CostKind .kind) (now (self .entry)) (S·Shelf .view (now (shelf .entry))) (now (ledger .entry))) place (codes-of (now (clause .entry))))) ⌝ }
+    pub fn hard<S: Shelf>(
+        &mut self,
+        shelf: &mut S,
+        ledger: &mut [Cell<K::Row>],
+        place: usize,
+        clause: &[Literal],
+    ) -> Result<(), Fault>
+        ensures did { λ r. ⌜ (fine (now (shelf .entry)) → Done (fine (now (shelf .exit))) (granted-told r) (state-at kind view (self .exit) (shelf .exit) (ledger .exit)) (hard-does (kind .scale) (state-at kind view (self .entry) (shelf .entry) (ledger .entry)) place (codes-of (now (clause .entry))))) ⌝ }
         ensures refused { λ r. ⌜ If-refused r ((now (self .exit) ≡ now (self .entry)) × (now (shelf .exit) ≡ now (shelf .entry)) × (now (ledger .exit) ≡ now (ledger .entry))) ⌝ }
     {
         let mut codes = [0u32; 255];
@@ -133,10 +157,18 @@ impl<K: CostKind> Bench<K> {
         Ok(())
     }
 
-    fn ask_soft<S: Shelf>(&self, shelf: &S, ledger: &[Cell<K::Row>], place: usize, figures: &[i64], clause: &[Literal], out: &mut [u32; 255]) -> Result<Accepted<K::Amount>, Fault>
+    fn ask_soft<S: Shelf>(
+        &self,
+        shelf: &S,
+        ledger: &[Cell<K::Row>],
+        place: usize,
+        figures: &[i64],
+        clause: &[Literal],
+        out: &mut [u32; 255],
+    ) -> Result<Accepted<K::Amount>, Fault>
         ensures low { λ r. ⌜ made r (λ a. a .count ≤ 255) ⌝ }
-        ensures is { λ r. ⌜ (S·Shelf .fine (now (shelf .entry)) → verdict-told r ≡ first-no (soft-questions (K·CostKind .kind .scale) (state-of (K·CostKind .kind) (now (self .entry)) (S·Shelf .view (now (shelf .entry))) (now (ledger .entry))) place (now (figures .entry)) (codes-of (now (clause .entry))))) ⌝ }
-        ensures accepted { λ r. ⌜ (S·Shelf .fine (now (shelf .entry)) → Accepts (K·CostKind .kind .figures) (now (out .exit)) (codes-of (now (clause .entry))) (now (figures .entry)) (K·CostKind .kind .figures (now (self .entry) .total)) (K·CostKind .kind .figures (now (self .entry) .proved)) r) ⌝ }
+        ensures is { λ r. ⌜ (fine (now (shelf .entry)) → verdict-told r ≡ first-no (soft-questions (kind .scale) (state-at kind view (self .entry) (shelf .entry) (ledger .entry)) place (now (figures .entry)) (codes-of (now (clause .entry))))) ⌝ }
+        ensures accepted { λ r. ⌜ (fine (now (shelf .entry)) → Accepts (kind .figures) (now (out .exit)) (codes-of (now (clause .entry))) (now (figures .entry)) (kind .figures (now (self .entry) .total)) (kind .figures (now (self .entry) .proved)) r) ⌝ }
     {
         let count = self.ask_clause(shelf, ledger, place, clause, out)?;
         match take_amount::<K>(figures, self.total) {
@@ -145,15 +177,27 @@ impl<K: CostKind> Bench<K> {
                 let amount = taken.0;
                 let total = taken.1;
                 let proved = paid::<K>(self.proved, clause.len() == 0, Cell::Soft(amount))?;
-                Ok(Accepted { count, amount, total, proved })
+                Ok(Accepted {
+                    count,
+                    amount,
+                    total,
+                    proved,
+                })
             }
         }
     }
 
     // Gives a clause with an amount, by its figures. An empty one adds its amount to
     // the proved cost and uses no place.
-    pub fn soft<S: Shelf>(&mut self, shelf: &mut S, ledger: &mut [Cell<K::Row>], place: usize, figures: &[i64], clause: &[Literal]) -> Result<(), Fault>
-        ensures did { λ r. ⌜ (S·Shelf .fine (now (shelf .entry)) → Done (S·Shelf .fine (now (shelf .exit))) (granted-told r) (state-of (K·CostKind .kind) (now (self .exit)) (S·Shelf .view (now (shelf .exit))) (now (ledger .exit))) (soft-does (K·CostKind .kind .scale) (state-of (K·CostKind .kind) (now (self .entry)) (S·Shelf .view (now (shelf .entry))) (now (ledger .entry))) place (now (figures .entry)) (codes-of (now (clause .entry))))) ⌝ }
+    pub fn soft<S: Shelf>(
+        &mut self,
+        shelf: &mut S,
+        ledger: &mut [Cell<K::Row>],
+        place: usize,
+        figures: &[i64],
+        clause: &[Literal],
+    ) -> Result<(), Fault>
+        ensures did { λ r. ⌜ (fine (now (shelf .entry)) → Done (fine (now (shelf .exit))) (granted-told r) (state-at kind view (self .exit) (shelf .exit) (ledger .exit)) (soft-does (kind .scale) (state-at kind view (self .entry) (shelf .entry) (ledger .entry)) place (now (figures .entry)) (codes-of (now (clause .entry))))) ⌝ }
         ensures refused { λ r. ⌜ If-refused r ((now (self .exit) ≡ now (self .entry)) × (now (shelf .exit) ≡ now (shelf .entry)) × (now (ledger .exit) ≡ now (ledger .entry))) ⌝ }
     {
         let mut codes = [0u32; 255];
@@ -161,13 +205,19 @@ impl<K: CostKind> Bench<K> {
         self.total = accepted.total;
         self.proved = accepted.proved;
         if clause.len() != 0 {
-            put_clause::<K, S>(shelf, ledger, place, &codes[..accepted.count], Cell::Soft(accepted.amount));
+            put_clause::<K, S>(
+                shelf,
+                ledger,
+                place,
+                &codes[..accepted.count],
+                Cell::Soft(accepted.amount),
+            );
         }
         Ok(())
     }
 
     fn ask_seal<S: Shelf>(&self, shelf: &S, ledger: &[Cell<K::Row>]) -> Result<(), Fault>
-        ensures { λ r. ⌜ (S·Shelf .fine (now (shelf .entry)) → verdict-told r ≡ first-no (seal-questions (state-of (K·CostKind .kind) (now (self .entry)) (S·Shelf .view (now (shelf .entry))) (now (ledger .entry))))) ⌝ }
+        ensures { λ r. ⌜ (fine (now (shelf .entry)) → verdict-told r ≡ first-no (seal-questions (state-at kind view (self .entry) (shelf .entry) (ledger .entry)))) ⌝ }
     {
         if !ledger_is_long_enough::<K, S>(shelf, ledger) {
             return Err(Fault::LedgerTooShort);
@@ -180,7 +230,7 @@ impl<K: CostKind> Bench<K> {
 
     // Ends filling.
     pub fn seal<S: Shelf>(&mut self, shelf: &S, ledger: &[Cell<K::Row>]) -> Result<(), Fault>
-        ensures did { λ r. ⌜ (S·Shelf .fine (now (shelf .entry)) → Done (S·Shelf .fine (now (shelf .entry))) (granted-told r) (state-of (K·CostKind .kind) (now (self .exit)) (S·Shelf .view (now (shelf .entry))) (now (ledger .entry))) (seal-does (state-of (K·CostKind .kind) (now (self .entry)) (S·Shelf .view (now (shelf .entry))) (now (ledger .entry))))) ⌝ }
+        ensures did { λ r. ⌜ (fine (now (shelf .entry)) → Done (fine (now (shelf .entry))) (granted-told r) (state-at kind view (self .exit) (shelf .entry) (ledger .entry)) (seal-does (state-at kind view (self .entry) (shelf .entry) (ledger .entry)))) ⌝ }
         ensures refused { λ r. ⌜ If-refused r (now (self .exit) ≡ now (self .entry)) ⌝ }
     {
         self.ask_seal(shelf, ledger)?;

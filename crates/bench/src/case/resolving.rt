@@ -13,7 +13,7 @@ ghost use Rattle.rules.specs.Questions.{first-no};
 ghost use Rattle.rules.specs.Results.{has-empty, kept, laid, alike};
 ghost use Rattle.rules.specs.Steps.{step-fits, cell-in, results-at, freed-if, resolve-questions, resolve-does};
 ghost use Rattle.bench.specs.Asked.{verdict-told, source-questions, result-questions, Empties, Resolves, Put};
-ghost use Rattle.bench.specs.Meaning.{state-of, granted-told, Done, If-refused};
+ghost use Rattle.bench.specs.Meaning.{state-at, granted-told, Done, If-refused};
 use crate::case::Bench;
 use crate::case::Phase;
 use crate::case::asking::ledger_is_long_enough;
@@ -58,7 +58,15 @@ fn ask_sources<S: Shelf>(shelf: &S, i: usize, j: usize, variable: u16) -> Result
 
 // Questions 11 and 12: the results are short enough and have room from `to` on; whether
 // one is empty.
-fn ask_results<S: Shelf>(shelf: &S, i: usize, j: usize, variable: u16, with_i: bool, with_j: bool, to: usize) -> Result<bool, Fault>
+fn ask_results<S: Shelf>(
+    shelf: &S,
+    i: usize,
+    j: usize,
+    variable: u16,
+    with_i: bool,
+    with_j: bool,
+    to: usize,
+) -> Result<bool, Fault>
     ensures is { λ r. ⌜ (fine (now (shelf .entry)) → verdict-told r ≡ first-no (result-questions (view (now (shelf .entry))) to (resolvents-at (view (now (shelf .entry))) i j variable «with_i» «with_j»))) ⌝ }
     ensures empty { λ r. ⌜ (fine (now (shelf .entry)) → Empties (has-empty (resolvents-at (view (now (shelf .entry))) i j variable «with_i» «with_j»)) r) ⌝ }
 {
@@ -73,8 +81,13 @@ fn ask_results<S: Shelf>(shelf: &S, i: usize, j: usize, variable: u16, with_i: b
 }
 
 // Writes back what is left of a parent; with nothing left its place is freed.
-fn settle<K: CostKind, S: Shelf>(shelf: &mut S, ledger: &mut [Cell<K::Row>], place: usize, left: Cell<K::Amount>)
-    ensures { λ _. ⌜ (S·Shelf .fine (now (shelf .entry)) → Put (S·Shelf .fine (now (shelf .exit))) (S·Shelf .view (now (shelf .exit))) (freed-if (nothing-left (K·CostKind .kind .scale .tiers) (cell-of (K·CostKind .kind .figures) left)) (S·Shelf .view (now (shelf .entry))) place) (cells-of (K·CostKind .kind) (now (ledger .exit))) (set (cells-of (K·CostKind .kind) (now (ledger .entry))) place (cell-of (K·CostKind .kind .figures) left))) ⌝ }
+fn settle<K: CostKind, S: Shelf>(
+    shelf: &mut S,
+    ledger: &mut [Cell<K::Row>],
+    place: usize,
+    left: Cell<K::Amount>,
+)
+    ensures { λ _. ⌜ (fine (now (shelf .entry)) → Put (fine (now (shelf .exit))) (view (now (shelf .exit))) (freed-if (nothing-left (kind .scale .tiers) (cell-of (kind .figures) left)) (view (now (shelf .entry))) place) (cells-of kind (now (ledger .exit))) (set (cells-of kind (now (ledger .entry))) place (cell-of (kind .figures) left))) ⌝ }
 {
     write_cell::<K>(ledger, place, left);
     if is_nothing::<K>(left) {
@@ -83,10 +96,28 @@ fn settle<K: CostKind, S: Shelf>(shelf: &mut S, ledger: &mut [Cell<K::Row>], pla
 }
 
 // Places the results from `to` on, then settles both parents.
-fn carry_out<K: CostKind, S: Shelf>(shelf: &mut S, ledger: &mut [Cell<K::Row>], i: usize, j: usize, variable: u16, to: usize, r: Resolution<K::Amount>)
-    ensures { λ _. ⌜ (S·Shelf .fine (now (shelf .entry)) → Placeable (S·Shelf .view (now (shelf .entry))) to (resolvents-at (S·Shelf .view (now (shelf .entry))) i j variable (r .«with_i») (r .«with_j»)) → Put (S·Shelf .fine (now (shelf .exit))) (S·Shelf .view (now (shelf .exit))) (freed-if (nothing-left (K·CostKind .kind .scale .tiers) (cell-of (K·CostKind .kind .figures) (r .weighed .«left_j»))) (freed-if (nothing-left (K·CostKind .kind .scale .tiers) (cell-of (K·CostKind .kind .figures) (r .weighed .«left_i»))) (after-placing (S·Shelf .view (now (shelf .entry))) to (resolvents-at (S·Shelf .view (now (shelf .entry))) i j variable (r .«with_i») (r .«with_j»))) i) j) (cells-of (K·CostKind .kind) (now (ledger .exit))) (set (set (laid to (alike (cell-of (K·CostKind .kind .figures) (r .weighed .common)) (kept (resolvents-at (S·Shelf .view (now (shelf .entry))) i j variable (r .«with_i») (r .«with_j»)))) (cells-of (K·CostKind .kind) (now (ledger .entry)))) i (cell-of (K·CostKind .kind .figures) (r .weighed .«left_i»))) j (cell-of (K·CostKind .kind .figures) (r .weighed .«left_j»)))) ⌝ }
+fn carry_out<K: CostKind, S: Shelf>(
+    shelf: &mut S,
+    ledger: &mut [Cell<K::Row>],
+    i: usize,
+    j: usize,
+    variable: u16,
+    to: usize,
+    r: Resolution<K::Amount>,
+)
+    ensures { λ _. ⌜ (fine (now (shelf .entry)) → Placeable (view (now (shelf .entry))) to (resolvents-at (view (now (shelf .entry))) i j variable (r .«with_i») (r .«with_j»)) → Put (fine (now (shelf .exit))) (view (now (shelf .exit))) (freed-if (nothing-left (kind .scale .tiers) (cell-of (kind .figures) (r .weighed .«left_j»))) (freed-if (nothing-left (kind .scale .tiers) (cell-of (kind .figures) (r .weighed .«left_i»))) (after-placing (view (now (shelf .entry))) to (resolvents-at (view (now (shelf .entry))) i j variable (r .«with_i») (r .«with_j»))) i) j) (cells-of kind (now (ledger .exit))) (set (set (laid to (alike (cell-of (kind .figures) (r .weighed .common)) (kept (resolvents-at (view (now (shelf .entry))) i j variable (r .«with_i») (r .«with_j»)))) (cells-of kind (now (ledger .entry)))) i (cell-of (kind .figures) (r .weighed .«left_i»))) j (cell-of (kind .figures) (r .weighed .«left_j»)))) ⌝ }
 {
-    place_resolve(shelf, ledger, i, j, variable, r.with_i, r.with_j, to, row_cell::<K>(r.weighed.common));
+    place_resolve(
+        shelf,
+        ledger,
+        i,
+        j,
+        variable,
+        r.with_i,
+        r.with_j,
+        to,
+        row_cell::<K>(r.weighed.common),
+    );
     settle::<K, S>(shelf, ledger, i, r.weighed.left_i);
     settle::<K, S>(shelf, ledger, j, r.weighed.left_j);
 }
@@ -107,7 +138,7 @@ fn mark_after<K: CostKind>(mark: bool, empty: bool, cell: Cell<K::Amount>) -> bo
 impl<K: CostKind> Bench<K> {
     // What every step and claim is asked first.
     pub(crate) fn ask_step<S: Shelf>(&self, shelf: &S, ledger: &[Cell<K::Row>]) -> Result<(), Fault>
-        ensures { λ r. ⌜ (S·Shelf .fine (now (shelf .entry)) → verdict-told r ≡ first-no (step-fits (state-of (K·CostKind .kind) (now (self .entry)) (S·Shelf .view (now (shelf .entry))) (now (ledger .entry))))) ⌝ }
+        ensures { λ r. ⌜ (fine (now (shelf .entry)) → verdict-told r ≡ first-no (step-fits (state-at kind view (self .entry) (shelf .entry) (ledger .entry)))) ⌝ }
     {
         if !ledger_is_long_enough::<K, S>(shelf, ledger) {
             return Err(Fault::LedgerTooShort);
@@ -118,9 +149,17 @@ impl<K: CostKind> Bench<K> {
         Ok(())
     }
 
-    fn ask_resolve<S: Shelf>(&self, shelf: &S, ledger: &[Cell<K::Row>], i: usize, j: usize, variable: u16, to: usize) -> Result<Resolution<K::Amount>, Fault>
-        ensures is { λ r. ⌜ (S·Shelf .fine (now (shelf .entry)) → verdict-told r ≡ first-no (resolve-questions (K·CostKind .kind .scale) (state-of (K·CostKind .kind) (now (self .entry)) (S·Shelf .view (now (shelf .entry))) (now (ledger .entry))) i j variable to)) ⌝ }
-        ensures resolution { λ r. ⌜ (S·Shelf .fine (now (shelf .entry)) → Resolves (K·CostKind .kind .figures) (cell-in (K·CostKind .kind .scale) (state-of (K·CostKind .kind) (now (self .entry)) (S·Shelf .view (now (shelf .entry))) (now (ledger .entry))) i) (cell-in (K·CostKind .kind .scale) (state-of (K·CostKind .kind) (now (self .entry)) (S·Shelf .view (now (shelf .entry))) (now (ledger .entry))) j) (has-empty (results-at (K·CostKind .kind .scale) (state-of (K·CostKind .kind) (now (self .entry)) (S·Shelf .view (now (shelf .entry))) (now (ledger .entry))) i j variable)) (K·CostKind .kind .figures (now (self .entry) .proved)) r) ⌝ }
+    fn ask_resolve<S: Shelf>(
+        &self,
+        shelf: &S,
+        ledger: &[Cell<K::Row>],
+        i: usize,
+        j: usize,
+        variable: u16,
+        to: usize,
+    ) -> Result<Resolution<K::Amount>, Fault>
+        ensures is { λ r. ⌜ (fine (now (shelf .entry)) → verdict-told r ≡ first-no (resolve-questions (kind .scale) (state-at kind view (self .entry) (shelf .entry) (ledger .entry)) i j variable to)) ⌝ }
+        ensures resolution { λ r. ⌜ (fine (now (shelf .entry)) → Resolves (kind .figures) (cell-in (kind .scale) (state-at kind view (self .entry) (shelf .entry) (ledger .entry)) i) (cell-in (kind .scale) (state-at kind view (self .entry) (shelf .entry) (ledger .entry)) j) (has-empty (results-at (kind .scale) (state-at kind view (self .entry) (shelf .entry) (ledger .entry)) i j variable)) (kind .figures (now (self .entry) .proved)) r) ⌝ }
     {
         self.ask_step(shelf, ledger)?;
         ask_sources(shelf, i, j, variable)?;
@@ -130,12 +169,25 @@ impl<K: CostKind> Bench<K> {
         let with_j = !is_hard_cell::<K>(b);
         let empty = ask_results(shelf, i, j, variable, with_i, with_j, to)?;
         let weighed = weigh::<K>(empty, a, b, self.proved)?;
-        Ok(Resolution { empty, with_i, with_j, weighed })
+        Ok(Resolution {
+            empty,
+            with_i,
+            with_j,
+            weighed,
+        })
     }
 
     // Resolves the places i and j on a variable, with the results from `to` on.
-    pub fn resolve<S: Shelf>(&mut self, shelf: &mut S, ledger: &mut [Cell<K::Row>], i: usize, j: usize, variable: u16, to: usize) -> Result<(), Fault>
-        ensures did { λ r. ⌜ (S·Shelf .fine (now (shelf .entry)) → Done (S·Shelf .fine (now (shelf .exit))) (granted-told r) (state-of (K·CostKind .kind) (now (self .exit)) (S·Shelf .view (now (shelf .exit))) (now (ledger .exit))) (resolve-does (K·CostKind .kind .scale) (state-of (K·CostKind .kind) (now (self .entry)) (S·Shelf .view (now (shelf .entry))) (now (ledger .entry))) i j variable to)) ⌝ }
+    pub fn resolve<S: Shelf>(
+        &mut self,
+        shelf: &mut S,
+        ledger: &mut [Cell<K::Row>],
+        i: usize,
+        j: usize,
+        variable: u16,
+        to: usize,
+    ) -> Result<(), Fault>
+        ensures did { λ r. ⌜ (fine (now (shelf .entry)) → Done (fine (now (shelf .exit))) (granted-told r) (state-at kind view (self .exit) (shelf .exit) (ledger .exit)) (resolve-does (kind .scale) (state-at kind view (self .entry) (shelf .entry) (ledger .entry)) i j variable to)) ⌝ }
         ensures refused { λ r. ⌜ If-refused r ((now (self .exit) ≡ now (self .entry)) × (now (shelf .exit) ≡ now (shelf .entry)) × (now (ledger .exit) ≡ now (ledger .entry))) ⌝ }
     {
         let r = self.ask_resolve(shelf, ledger, i, j, variable, to)?;

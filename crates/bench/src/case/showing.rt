@@ -5,7 +5,7 @@ ghost use Rattle.ledger.specs.Meaning.{cells-of};
 ghost use Rattle.rules.specs.Questions.{first-no};
 ghost use Rattle.rules.specs.Showing.{owed, show-questions, show-does};
 ghost use Rattle.bench.specs.Asked.{verdict-told, Bills};
-ghost use Rattle.bench.specs.Meaning.{state-of, shown-told, Done, If-refused};
+ghost use Rattle.bench.specs.Meaning.{state-at, shown-told, Done, If-refused};
 use crate::case::Bench;
 use crate::case::asking::is_sealed;
 use crate::case::asking::ledger_is_long_enough;
@@ -19,9 +19,14 @@ use ledger::cell::Cell;
 use shelf::store::Shelf;
 
 impl<K: CostKind> Bench<K> {
-    fn ask_show<S: Shelf>(&self, shelf: &S, ledger: &[Cell<K::Row>], strip: &[u8]) -> Result<(K::Amount, usize), Fault>
-        ensures is { λ r. ⌜ (S·Shelf .fine (now (shelf .entry)) → verdict-told r ≡ first-no (show-questions (K·CostKind .kind .scale) (state-of (K·CostKind .kind) (now (self .entry)) (S·Shelf .view (now (shelf .entry))) (now (ledger .entry))) (now (strip .entry)))) ⌝ }
-        ensures bill { λ r. ⌜ (S·Shelf .fine (now (shelf .entry)) → Bills (K·CostKind .kind .figures) (K·CostKind .kind .figures (now (self .entry) .proved)) (owed (now (strip .entry)) (S·Shelf .view (now (shelf .entry)) .held) (cells-of (K·CostKind .kind) (now (ledger .entry)))) r) ⌝ }
+    fn ask_show<S: Shelf>(
+        &self,
+        shelf: &S,
+        ledger: &[Cell<K::Row>],
+        strip: &[u8],
+    ) -> Result<(K::Amount, usize), Fault>
+        ensures is { λ r. ⌜ (fine (now (shelf .entry)) → verdict-told r ≡ first-no (show-questions (kind .scale) (state-at kind view (self .entry) (shelf .entry) (ledger .entry)) (now (strip .entry)))) ⌝ }
+        ensures bill { λ r. ⌜ (fine (now (shelf .entry)) → Bills (kind .figures) (kind .figures (now (self .entry) .proved)) (owed (now (strip .entry)) (view (now (shelf .entry)) .held) (cells-of kind (now (ledger .entry)))) r) ⌝ }
     {
         if !ledger_is_long_enough::<K, S>(shelf, ledger) {
             return Err(Fault::LedgerTooShort);
@@ -43,8 +48,13 @@ impl<K: CostKind> Bench<K> {
     }
 
     // Shows a plan: its cost, and how many soft clauses on the shelf it leaves unmet.
-    pub fn show<S: Shelf>(&mut self, shelf: &S, ledger: &[Cell<K::Row>], strip: &[u8]) -> Result<(K::Amount, usize), Fault>
-        ensures did { λ r. ⌜ (S·Shelf .fine (now (shelf .entry)) → Done (S·Shelf .fine (now (shelf .entry))) (shown-told (K·CostKind .kind .figures) r) (state-of (K·CostKind .kind) (now (self .exit)) (S·Shelf .view (now (shelf .entry))) (now (ledger .entry))) (show-does (K·CostKind .kind .scale) (state-of (K·CostKind .kind) (now (self .entry)) (S·Shelf .view (now (shelf .entry))) (now (ledger .entry))) (now (strip .entry)))) ⌝ }
+    pub fn show<S: Shelf>(
+        &mut self,
+        shelf: &S,
+        ledger: &[Cell<K::Row>],
+        strip: &[u8],
+    ) -> Result<(K::Amount, usize), Fault>
+        ensures did { λ r. ⌜ (fine (now (shelf .entry)) → Done (fine (now (shelf .entry))) (shown-told (kind .figures) r) (state-at kind view (self .exit) (shelf .entry) (ledger .entry)) (show-does (kind .scale) (state-at kind view (self .entry) (shelf .entry) (ledger .entry)) (now (strip .entry)))) ⌝ }
         ensures refused { λ r. ⌜ If-refused r (now (self .exit) ≡ now (self .entry)) ⌝ }
     {
         let owing = self.ask_show(shelf, ledger, strip)?;

@@ -13,7 +13,7 @@ returns g c =
     record {
       did = c .open .ensures .did;
       words = λ h.
-        let d = c .open .ensures .did h in
-        blank (k .scale) s t (c .args .n) (c .open .result) (w .places) (w .highest) (w .longest) (words-of w) (d .fine) refl d;
-      cells = c .open .ensures .cleared
+          let d = c .open .ensures .did h in
+          blank (k .scale) s t (c .args .n) (c .open .result) (w .places) (w .highest) (w .longest) (words-of w) (d .fine) refl d;
+      cells = c .open .ensures .cleared;
     }

@@ -14,7 +14,7 @@ loop-k-again c =
     let ls = c .args .clause .now in
     let k = c .loop-k .k in
     let h : c .loop-k .k < length (c .args .clause .now) =
-      elim (c .if-clause-lt255 .came) [ then-clause-lt255 w ↦ omega (arith, w .n-is) | else-clause-lt255 w ↦ omega (arith, w .n-is) ] in
+    elim (c .if-clause-lt255 .came) [ then-clause-lt255 w ↦ omega (arith, w .n-is) | else-clause-lt255 w ↦ omega (arith, w .n-is) ] in
     let x = getD ls k (record { code = 0 }) .code in
     let m : c .loop-k .k < length (codes (c .args .clause .now)) = simp length-map h in
     let e = getD-map (λ (l : Literal). l .code) ls k (record { code = 0 }) 0 h in

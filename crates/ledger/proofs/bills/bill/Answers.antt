@@ -43,28 +43,30 @@ loop-p-again g c =
     let p = c .loop-p .p in
     let z = k .figures (c .loop-p .cost) in
     elim (c .match-amount-owed .came) [
-      in-None w ↦
-        ( omega (arith, w .unmet-is, c .loop-p .inv .0)
-        , λ h l.
-          let n = c .place-count-count .ensures .is h in
-          let s = g .S·Shelf .sound _ h .count in
-          let m = length-map (c .args .ledger .now) (cell-of (k .back)) in
-          let rest = owed x (drop (p + 1) (v .held)) (drop (p + 1) ks) in
-          let here = owed-none x (v .held) ks p (soft (zeros (k .scale .tiers))) (omega arith) (omega arith) (w .in-None .ensures tt h) in
-          ap (λ y. billed (k .scale) (k .figures y) rest (c .match-amount-owed .unmet)) (w .cost-is) ∙ ap (billed (k .scale) z rest) (w .unmet-is)
-          ∙ ap (λ (os : List (List ℤ)). billed (k .scale) z os (c .loop-p .unmet)) (sym here) ∙ c .loop-p .inv .1 h l )
-    | in-Some·in-Continue-cost w ↦
-        ( omega (arith, w .unmet-is, c .loop-p .inv .0)
-        , λ h l.
-          let n = c .place-count-count .ensures .is h in
-          let s = g .S·Shelf .sound _ h .count in
-          let m = length-map (c .args .ledger .now) (cell-of (k .back)) in
-          let rest = owed x (drop (p + 1) (v .held)) (drop (p + 1) ks) in
-          let a = k .figures (w .in-Some .a) in
-          let here = owed-some x (v .held) ks p (soft (zeros (k .scale .tiers))) (omega arith) (omega arith) a (w .in-Some .ensures tt h) in
-          ap (λ y. billed (k .scale) (k .figures y) rest (c .match-amount-owed .unmet)) (w .cost-is) ∙ ap (billed (k .scale) _ rest) (w .unmet-is)
-          ∙ billed-more (k .scale) z a _ rest (c .loop-p .unmet) (w .in-Continue-cost .ensures tt)
-          ∙ ap (λ (os : List (List ℤ)). billed (k .scale) z os (c .loop-p .unmet)) (sym here) ∙ c .loop-p .inv .1 h l )
+      | in-None w ↦ (
+        omega (arith, w .unmet-is, c .loop-p .inv .0),
+        λ h l.
+            let n = c .place-count-count .ensures .is h in
+            let s = g .S·Shelf .sound _ h .count in
+            let m = length-map (c .args .ledger .now) (cell-of (k .back)) in
+            let rest = owed x (drop (p + 1) (v .held)) (drop (p + 1) ks) in
+            let here = owed-none x (v .held) ks p (soft (zeros (k .scale .tiers))) (omega arith) (omega arith) (w .in-None .ensures tt h) in
+            ap (λ y. billed (k .scale) (k .figures y) rest (c .match-amount-owed .unmet)) (w .cost-is) ∙ ap (billed (k .scale) z rest) (w .unmet-is)
+            ∙ ap (λ (os : List (List ℤ)). billed (k .scale) z os (c .loop-p .unmet)) (sym here) ∙ c .loop-p .inv .1 h l,
+      )
+      | in-Some·in-Continue-cost w ↦ (
+        omega (arith, w .unmet-is, c .loop-p .inv .0),
+        λ h l.
+            let n = c .place-count-count .ensures .is h in
+            let s = g .S·Shelf .sound _ h .count in
+            let m = length-map (c .args .ledger .now) (cell-of (k .back)) in
+            let rest = owed x (drop (p + 1) (v .held)) (drop (p + 1) ks) in
+            let a = k .figures (w .in-Some .a) in
+            let here = owed-some x (v .held) ks p (soft (zeros (k .scale .tiers))) (omega arith) (omega arith) a (w .in-Some .ensures tt h) in
+            ap (λ y. billed (k .scale) (k .figures y) rest (c .match-amount-owed .unmet)) (w .cost-is) ∙ ap (billed (k .scale) _ rest) (w .unmet-is)
+            ∙ billed-more (k .scale) z a _ rest (c .loop-p .unmet) (w .in-Continue-cost .ensures tt)
+            ∙ ap (λ (os : List (List ℤ)). billed (k .scale) z os (c .loop-p .unmet)) (sym here) ∙ c .loop-p .inv .1 h l,
+      )
     ]
 
 pub returns : need.returns

@@ -31,8 +31,8 @@ returns g c =
     let read = ap (k .back) (c .row-nothing .ensures) ∙ law .own-row (c .nothing .result) ∙ c .nothing .ensures in
     record {
       is = λ a e.
-        all ∙ ap (λ w. replicate (length old) (Soft w)) (c .row-nothing .ensures ∙ ap (k .row) (law .one (c .nothing .result) a (c .nothing .ensures ∙ sym e)));
+          all ∙ ap (λ w. replicate (length old) (Soft w)) (c .row-nothing .ensures ∙ ap (k .row) (law .one (c .nothing .result) a (c .nothing .ensures ∙ sym e)));
       means =
-        ap (cells-of k) all ∙ map-replicate (cell-of (k .back)) (length old) (Soft (c .row-nothing .result)) ∙ ap (λ z. replicate (length old) (rules.soft z)) read
-        ∙ ap (λ (i : ℕ). replicate i (rules.soft (zeros (k .scale .tiers)))) (sym (length-map old (cell-of (k .back))))
+          ap (cells-of k) all ∙ map-replicate (cell-of (k .back)) (length old) (Soft (c .row-nothing .result)) ∙ ap (λ z. replicate (length old) (rules.soft z)) read
+          ∙ ap (λ (i : ℕ). replicate i (rules.soft (zeros (k .scale .tiers)))) (sym (length-map old (cell-of (k .back))));
     }

@@ -12,7 +12,7 @@ returns-then-place-ledger g c =
     let cs = c .args .ledger .now in
     record {
       is = ap (set cs (c .args .place)) (c .row-cell .ensures .is);
-      means = map-set (cell-of (k .back)) cs (c .args .place) (c .row-cell .result) ∙ ap (λ (x : Cell). set (cells-of k cs) (c .args .place) x) (c .row-cell .ensures .means)
+      means = map-set (cell-of (k .back)) cs (c .args .place) (c .row-cell .result) ∙ ap (λ (x : Cell). set (cells-of k cs) (c .args .place) x) (c .row-cell .ensures .means);
     }
 
 pub returns-else-place-ledger : need.returns-else-place-ledger
@@ -22,5 +22,5 @@ returns-else-place-ledger g c =
     let h : length (cells-of (g .K·CostKind .kind) (c .args .ledger .now)) ≤ c .args .place = simp length-map (c .if-place-ledger .left) in
     record {
       is = sym (set-past cs (c .args .place) (written (k .row) (c .args .cell)) (c .if-place-ledger .left));
-      means = sym (set-past (cells-of k cs) (c .args .place) (cell-of (k .figures) (c .args .cell)) h)
+      means = sym (set-past (cells-of k cs) (c .args .place) (cell-of (k .figures) (c .args .cell)) h);
     }

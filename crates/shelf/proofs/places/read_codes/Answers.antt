@@ -21,7 +21,7 @@ returns g c =
     record {
       low = omega arith;
       is = λ h.
-        let n = c .size-n .ensures .is h in
-        let e : c .size-n .result ≡ c .loop-k .k = omega arith in
-        ap (λ (k : ℕ). take k (c .loop-k .out)) e ∙ c .loop-k .inv h ∙ take-all (c .loop-k .k) (clause (g .S·Shelf .view (c .args .shelf .now)) (c .args .place)) (omega arith)
+          let n = c .size-n .ensures .is h in
+          let e : c .size-n .result ≡ c .loop-k .k = omega arith in
+          ap (λ (k : ℕ). take k (c .loop-k .out)) e ∙ c .loop-k .inv h ∙ take-all (c .loop-k .k) (clause (g .S·Shelf .view (c .args .shelf .now)) (c .args .place)) (omega arith);
     }

@@ -25,7 +25,7 @@ returns-in-Break-ask-sources g c =
     let p = err-from-errBy (c .from-residual-in-Break-ask-sources .result) (c .from-residual-in-Break-ask-sources .ensures .1) in
     rw (p .1, p .2) (record {
       is = λ h. stop-sources (k .scale) s (c .args .i) (c .args .j) (c .args .variable) (c .args .to) (c .in-Continue-ask-step .ensures tt h) _ _ (c .in-Break-ask-sources .ensures tt h);
-      resolution = λ h. tt
+      resolution = λ h. tt;
     })
 
 pub returns-in-Break-empty : need.returns-in-Break-empty
@@ -43,10 +43,10 @@ returns-in-Break-empty g c =
     let p = err-from-errBy (c .from-residual-in-Break-empty .result) (c .from-residual-in-Break-empty .ensures .1) in
     rw (p .1, p .2) (record {
       is = λ h.
-        let h₁ = c .in-Continue-ask-step .ensures tt h in
-        let h₂ = c .in-Continue-ask-sources .ensures tt h in
-        stop-results (k .scale) s i j x to h₁ h₂ _ _ (c .in-Break-empty .ensures tt .is h ∙ ap (λ (rs : List (List ℕ)). first-no (result-questions v to rs)) same);
-      resolution = λ h. tt
+          let h₁ = c .in-Continue-ask-step .ensures tt h in
+          let h₂ = c .in-Continue-ask-sources .ensures tt h in
+          stop-results (k .scale) s i j x to h₁ h₂ _ _ (c .in-Break-empty .ensures tt .is h ∙ ap (λ (rs : List (List ℕ)). first-no (result-questions v to rs)) same);
+      resolution = λ h. tt;
     })
 
 pub returns-in-Break-weighed : need.returns-in-Break-weighed
@@ -64,13 +64,13 @@ returns-in-Break-weighed g c =
     let p = err-from-errBy (c .from-residual-in-Break-weighed .result) (c .from-residual-in-Break-weighed .ensures .1) in
     rw (p .1, p .2) (record {
       is = λ h.
-        let h₁ = c .in-Continue-ask-step .ensures tt h in
-        let h₂ = c .in-Continue-ask-sources .ensures tt h in
-        let h₃ = c .in-Continue-empty .ensures tt .is h ∙ ap (λ (rs : List (List ℕ)). first-no (result-questions v to rs)) same in
-        let e = c .in-Continue-empty .ensures tt .empty h ∙ ap has-empty same in
-        let d = same-dues (k .scale) (s .bench .proved) e (c .read-cell-a .ensures) (c .read-cell-b .ensures) in
-        stop-amounts (k .scale) s i j x to h₁ h₂ h₃ _ (c .in-Break-weighed .ensures tt ∙ d);
-      resolution = λ h. tt
+          let h₁ = c .in-Continue-ask-step .ensures tt h in
+          let h₂ = c .in-Continue-ask-sources .ensures tt h in
+          let h₃ = c .in-Continue-empty .ensures tt .is h ∙ ap (λ (rs : List (List ℕ)). first-no (result-questions v to rs)) same in
+          let e = c .in-Continue-empty .ensures tt .empty h ∙ ap has-empty same in
+          let d = same-dues (k .scale) (s .bench .proved) e (c .read-cell-a .ensures) (c .read-cell-b .ensures) in
+          stop-amounts (k .scale) s i j x to h₁ h₂ h₃ _ (c .in-Break-weighed .ensures tt ∙ d);
+      resolution = λ h. tt;
     })
 
 pub returns : need.returns
@@ -87,17 +87,17 @@ returns g c =
     let same = same-results v i j x wi wj in
     record {
       is = λ h.
-        let h₁ = c .in-Continue-ask-step .ensures tt h in
-        let h₂ = c .in-Continue-ask-sources .ensures tt h in
-        let h₃ = c .in-Continue-empty .ensures tt .is h ∙ ap (λ (rs : List (List ℕ)). first-no (result-questions v to rs)) same in
-        let e = c .in-Continue-empty .ensures tt .empty h ∙ ap has-empty same in
-        let d = same-dues (k .scale) (s .bench .proved) e (c .read-cell-a .ensures) (c .read-cell-b .ensures) in
-        all-passed (k .scale) s i j x to h₁ h₂ h₃ _ (c .in-Continue-weighed .ensures tt ∙ d) .0;
+          let h₁ = c .in-Continue-ask-step .ensures tt h in
+          let h₂ = c .in-Continue-ask-sources .ensures tt h in
+          let h₃ = c .in-Continue-empty .ensures tt .is h ∙ ap (λ (rs : List (List ℕ)). first-no (result-questions v to rs)) same in
+          let e = c .in-Continue-empty .ensures tt .empty h ∙ ap has-empty same in
+          let d = same-dues (k .scale) (s .bench .proved) e (c .read-cell-a .ensures) (c .read-cell-b .ensures) in
+          all-passed (k .scale) s i j x to h₁ h₂ h₃ _ (c .in-Continue-weighed .ensures tt ∙ d) .0;
       resolution = λ h.
-        let h₁ = c .in-Continue-ask-step .ensures tt h in
-        let h₂ = c .in-Continue-ask-sources .ensures tt h in
-        let h₃ = c .in-Continue-empty .ensures tt .is h ∙ ap (λ (rs : List (List ℕ)). first-no (result-questions v to rs)) same in
-        let e = c .in-Continue-empty .ensures tt .empty h ∙ ap has-empty same in
-        let d = same-dues (k .scale) (s .bench .proved) e (c .read-cell-a .ensures) (c .read-cell-b .ensures) in
-        record { empty-is = e; with-i-is = wi; with-j-is = wj; dues-are = all-passed (k .scale) s i j x to h₁ h₂ h₃ _ (c .in-Continue-weighed .ensures tt ∙ d) .1 }
+          let h₁ = c .in-Continue-ask-step .ensures tt h in
+          let h₂ = c .in-Continue-ask-sources .ensures tt h in
+          let h₃ = c .in-Continue-empty .ensures tt .is h ∙ ap (λ (rs : List (List ℕ)). first-no (result-questions v to rs)) same in
+          let e = c .in-Continue-empty .ensures tt .empty h ∙ ap has-empty same in
+          let d = same-dues (k .scale) (s .bench .proved) e (c .read-cell-a .ensures) (c .read-cell-b .ensures) in
+          record { empty-is = e; with-i-is = wi; with-j-is = wj; dues-are = all-passed (k .scale) s i j x to h₁ h₂ h₃ _ (c .in-Continue-weighed .ensures tt ∙ d) .1 };
     }

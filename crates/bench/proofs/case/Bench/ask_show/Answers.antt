@@ -11,12 +11,12 @@ returns-then-not-meets-hard g c =
     let x = c .args .strip .now in
     record {
       is = λ h.
-        let a₁ = sym (c .ledger-is-long-enough .ensures h) ∙ c .if-not-ledger-is-long-enough .left in
-        let a₂ = sym (c .is-sealed .ensures) ∙ c .if-not-is-sealed .left in
-        let a₇ = sym (c .is-plan .ensures) ∙ c .if-not-is-plan .left in
-        let l = long-enough k (s .shelf .places) (c .args .ledger .now) a₁ in
-        show-unmet (k .scale) s x a₁ a₂ a₇ (sym (c .meets-hard .ensures h l) ∙ c .if-not-meets-hard .taken);
-      bill = λ h. tt
+          let a₁ = sym (c .ledger-is-long-enough .ensures h) ∙ c .if-not-ledger-is-long-enough .left in
+          let a₂ = sym (c .is-sealed .ensures) ∙ c .if-not-is-sealed .left in
+          let a₇ = sym (c .is-plan .ensures) ∙ c .if-not-is-plan .left in
+          let l = long-enough k (s .shelf .places) (c .args .ledger .now) a₁ in
+          show-unmet (k .scale) s x a₁ a₂ a₇ (sym (c .meets-hard .ensures h l) ∙ c .if-not-meets-hard .taken);
+      bill = λ h. tt;
     }
 
 pub returns-in-Break-owing : need.returns-in-Break-owing
@@ -27,12 +27,12 @@ returns-in-Break-owing g c =
     let p = err-from-errBy (c .from-residual .result) (c .from-residual .ensures .1) in
     rw (p .1, p .2) (record {
       is = λ h.
-        let a₁ = sym (c .ledger-is-long-enough .ensures h) ∙ c .if-not-ledger-is-long-enough .left in
-        let a₂ = sym (c .is-sealed .ensures) ∙ c .if-not-is-sealed .left in
-        let a₇ = sym (c .is-plan .ensures) ∙ c .if-not-is-plan .left in
-        let l = long-enough k (s .shelf .places) (c .args .ledger .now) a₁ in
-        show-out (k .scale) s x a₁ a₂ a₇ (sym (c .meets-hard .ensures h l) ∙ c .if-not-meets-hard .left) (c .if-self .left) _ (c .in-Break-owing .ensures tt h l);
-      bill = λ h. tt
+          let a₁ = sym (c .ledger-is-long-enough .ensures h) ∙ c .if-not-ledger-is-long-enough .left in
+          let a₂ = sym (c .is-sealed .ensures) ∙ c .if-not-is-sealed .left in
+          let a₇ = sym (c .is-plan .ensures) ∙ c .if-not-is-plan .left in
+          let l = long-enough k (s .shelf .places) (c .args .ledger .now) a₁ in
+          show-out (k .scale) s x a₁ a₂ a₇ (sym (c .meets-hard .ensures h l) ∙ c .if-not-meets-hard .left) (c .if-self .left) _ (c .in-Break-owing .ensures tt h l);
+      bill = λ h. tt;
     })
 
 pub returns : need.returns
@@ -42,16 +42,16 @@ returns g c =
     let x = c .args .strip .now in
     record {
       is = λ h.
-        let a₁ = sym (c .ledger-is-long-enough .ensures h) ∙ c .if-not-ledger-is-long-enough .left in
-        let a₂ = sym (c .is-sealed .ensures) ∙ c .if-not-is-sealed .left in
-        let a₇ = sym (c .is-plan .ensures) ∙ c .if-not-is-plan .left in
-        let l = long-enough k (s .shelf .places) (c .args .ledger .now) a₁ in
-        show-pass (k .scale) s x a₁ a₂ a₇ (sym (c .meets-hard .ensures h l) ∙ c .if-not-meets-hard .left) (c .if-self .left) _ (c .in-Continue-owing .ensures tt h l) .0;
+          let a₁ = sym (c .ledger-is-long-enough .ensures h) ∙ c .if-not-ledger-is-long-enough .left in
+          let a₂ = sym (c .is-sealed .ensures) ∙ c .if-not-is-sealed .left in
+          let a₇ = sym (c .is-plan .ensures) ∙ c .if-not-is-plan .left in
+          let l = long-enough k (s .shelf .places) (c .args .ledger .now) a₁ in
+          show-pass (k .scale) s x a₁ a₂ a₇ (sym (c .meets-hard .ensures h l) ∙ c .if-not-meets-hard .left) (c .if-self .left) _ (c .in-Continue-owing .ensures tt h l) .0;
       bill = λ h.
-        let a₁ = sym (c .ledger-is-long-enough .ensures h) ∙ c .if-not-ledger-is-long-enough .left in
-        let a₂ = sym (c .is-sealed .ensures) ∙ c .if-not-is-sealed .left in
-        let a₇ = sym (c .is-plan .ensures) ∙ c .if-not-is-plan .left in
-        let l = long-enough k (s .shelf .places) (c .args .ledger .now) a₁ in
-        let q = show-pass (k .scale) s x a₁ a₂ a₇ (sym (c .meets-hard .ensures h l) ∙ c .if-not-meets-hard .left) (c .if-self .left) _ (c .in-Continue-owing .ensures tt h l) in
-        record { cost-is = q .1; count-is = q .2 }
+          let a₁ = sym (c .ledger-is-long-enough .ensures h) ∙ c .if-not-ledger-is-long-enough .left in
+          let a₂ = sym (c .is-sealed .ensures) ∙ c .if-not-is-sealed .left in
+          let a₇ = sym (c .is-plan .ensures) ∙ c .if-not-is-plan .left in
+          let l = long-enough k (s .shelf .places) (c .args .ledger .now) a₁ in
+          let q = show-pass (k .scale) s x a₁ a₂ a₇ (sym (c .meets-hard .ensures h l) ∙ c .if-not-meets-hard .left) (c .if-self .left) _ (c .in-Continue-owing .ensures tt h l) in
+          record { cost-is = q .1; count-is = q .2 };
     }

@@ -23,7 +23,7 @@ returns-in-Break-count g c =
     rw (p .1, p .2) (record {
       low = tt;
       is = λ h. soft-stop (k .scale) s (c .args .place) xs cs _ _ (c .in-Break-count .ensures tt .is h);
-      accepted = λ h. tt
+      accepted = λ h. tt;
     })
 
 pub returns-in-None : need.returns-in-None
@@ -47,8 +47,8 @@ returns-in-Break-proved g c =
     rw (p .1, p .2) (record {
       low = tt;
       is = λ h.
-        soft-out (k .scale) s (c .args .place) xs cs (c .in-Continue-count .ensures tt .is h) (t .0) (k .figures (c .in-Some .taken .0)) e (ap (λ (y : Taken). y .amount) (t .1)) (empty-test (c .args .clause .now)) _ (c .in-Break-proved .ensures tt);
-      accepted = λ h. tt
+          soft-out (k .scale) s (c .args .place) xs cs (c .in-Continue-count .ensures tt .is h) (t .0) (k .figures (c .in-Some .taken .0)) e (ap (λ (y : Taken). y .amount) (t .1)) (empty-test (c .args .clause .now)) _ (c .in-Break-proved .ensures tt);
+      accepted = λ h. tt;
     })
 
 pub returns-in-Continue-proved : need.returns-in-Continue-proved
@@ -62,12 +62,12 @@ returns-in-Continue-proved g c =
     record {
       low = c .in-Continue-count .ensures tt .low;
       is = λ h.
-        soft-pass (k .scale) s (c .args .place) xs cs (c .in-Continue-count .ensures tt .is h) (t .0) (k .figures (c .in-Some .taken .0)) e (ap (λ (y : Taken). y .amount) (t .1)) (empty-test (c .args .clause .now)) _ (c .in-Continue-proved .ensures tt) .0;
+          soft-pass (k .scale) s (c .args .place) xs cs (c .in-Continue-count .ensures tt .is h) (t .0) (k .figures (c .in-Some .taken .0)) e (ap (λ (y : Taken). y .amount) (t .1)) (empty-test (c .args .clause .now)) _ (c .in-Continue-proved .ensures tt) .0;
       accepted = λ h. record {
         copied = c .in-Continue-count .ensures tt .copied h;
         amount-is = ap (λ (y : Taken). y .amount) (t .1);
         total-is = ap (λ (y : Taken). y .total) (t .1);
         proved-is =
-          soft-pass (k .scale) s (c .args .place) xs cs (c .in-Continue-count .ensures tt .is h) (t .0) (k .figures (c .in-Some .taken .0)) e (ap (λ (y : Taken). y .amount) (t .1)) (empty-test (c .args .clause .now)) _ (c .in-Continue-proved .ensures tt) .1
-      }
+            soft-pass (k .scale) s (c .args .place) xs cs (c .in-Continue-count .ensures tt .is h) (t .0) (k .figures (c .in-Some .taken .0)) e (ap (λ (y : Taken). y .amount) (t .1)) (empty-test (c .args .clause .now)) _ (c .in-Continue-proved .ensures tt) .1;
+      };
     }

@@ -15,7 +15,7 @@ returns-in-Break-ask-cheapest g c =
     let p = err-from-errBy (c .from-residual .result) (c .from-residual .ensures .1) in
     rw (p .1, p .2) (record {
       did = λ h. refusing h s (cheapest-questions s) o (c .in-Break-ask-cheapest .field-0 .0) (c .in-Break-ask-cheapest .ensures tt h);
-      refused = refl
+      refused = refl;
     })
 
 pub returns : need.returns

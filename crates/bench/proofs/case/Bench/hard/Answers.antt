@@ -26,7 +26,7 @@ returns-in-Break-count g c =
     let p = err-from-errBy (c .from-residual .result) (c .from-residual .ensures .1) in
     rw (p .1, p .2) (record {
       did = λ h. refusing h s (clause-questions s (c .args .place) cs) (grants (hard-done s (c .args .place) cs)) (c .in-Break-count .field-0 .0) (c .in-Break-count .ensures tt .is h);
-      refused = (refl, refl, refl)
+      refused = (refl, refl, refl);
     })
 
 pub returns-then-clause-eq0 : need.returns-then-clause-eq0
@@ -39,9 +39,9 @@ returns-then-clause-eq0 g c =
     let n = none-given (c .args .clause .now) (c .if-clause-eq0 .taken) in
     record {
       did = λ h.
-        granting h s (clause-questions s p cs) (grants (hard-done s p cs)) (c .in-Continue-count .ensures tt .is h) refl
-        (ap (λ (b : Bool). cond b (with-bench s (marked (s .bench))) (placed s p cs hard)) (sym n));
-      refused = tt
+          granting h s (clause-questions s p cs) (grants (hard-done s p cs)) (c .in-Continue-count .ensures tt .is h) refl
+          (ap (λ (b : Bool). cond b (with-bench s (marked (s .bench))) (placed s p cs hard)) (sym n));
+      refused = tt;
     }
 
 pub returns-else-clause-eq0 : need.returns-else-clause-eq0
@@ -56,13 +56,13 @@ returns-else-clause-eq0 g c =
     let n = some-given (c .args .clause .now) (c .if-clause-eq0 .left) in
     record {
       did = λ h.
-        let passed = c .in-Continue-count .ensures tt .is h in
-        let q = clause-passed s p cs passes passed in
-        let F : List ℕ → Type 0 = λ xs.
+          let passed = c .in-Continue-count .ensures tt .is h in
+          let q = clause-passed s p cs passes passed in
+          let F : List ℕ → Type 0 = λ xs.
           Writable v p xs
           → Put (g .S·Shelf .fine (c .put-clause .last .shelf)) (g .S·Shelf .view (c .put-clause .last .shelf)) (with-held v (set (v .held) p xs)) (cells-of k (c .put-clause .last .ledger)) (set l p hard) in
-        let put = subst F (c .in-Continue-count .ensures tt .copied h) (c .put-clause .ensures h) (may-write s p cs (q .0) (q .1) n) in
-        granting (put .fine) s (clause-questions s p cs) (grants (hard-done s p cs)) passed refl
-        (same-state refl (put .view) (put .cells) ∙ ap (λ (b : Bool). cond b (with-bench s (marked (s .bench))) (placed s p cs hard)) (sym n));
-      refused = tt
+          let put = subst F (c .in-Continue-count .ensures tt .copied h) (c .put-clause .ensures h) (may-write s p cs (q .0) (q .1) n) in
+          granting (put .fine) s (clause-questions s p cs) (grants (hard-done s p cs)) passed refl
+          (same-state refl (put .view) (put .cells) ∙ ap (λ (b : Bool). cond b (with-bench s (marked (s .bench))) (placed s p cs hard)) (sym n));
+      refused = tt;
     }

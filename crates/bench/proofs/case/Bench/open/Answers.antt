@@ -21,7 +21,7 @@ returns-in-Break-ask-open g c =
     rw (p .1, p .2) (record {
       did = λ h. refusing h s (open-questions s (c .args .n)) (grants (open-done (k .scale) s (c .args .n))) (c .in-Break-ask-open .field-0 .0) (c .in-Break-ask-open .ensures tt h);
       refused = (refl, refl, refl);
-      cleared = tt
+      cleared = tt;
     })
 
 pub returns : need.returns
@@ -31,8 +31,8 @@ returns g c =
     let s = state-of k (c .args .self .now) (g .S·Shelf .view (c .args .shelf .now)) (c .args .ledger .now) in
     record {
       did = λ h.
-        granting (c .wipe-all .ensures h .fine) s (open-questions s (c .args .n)) (grants (open-done (k .scale) s (c .args .n))) (c .in-Continue-ask-open .ensures tt h) refl
-        (opened (c .args .n) (c .nothing-nothing .ensures) (c .wipe-all .ensures h .view) (c .clear .ensures .means));
+          granting (c .wipe-all .ensures h .fine) s (open-questions s (c .args .n)) (grants (open-done (k .scale) s (c .args .n))) (c .in-Continue-ask-open .ensures tt h) refl
+          (opened (c .args .n) (c .nothing-nothing .ensures) (c .wipe-all .ensures h .view) (c .clear .ensures .means));
       refused = tt;
-      cleared = c .clear .ensures .is
+      cleared = c .clear .ensures .is;
     }

@@ -28,7 +28,7 @@ returns-in-Break-r g c =
     let p = err-from-errBy (c .from-residual .result) (c .from-residual .ensures .1) in
     rw (p .1, p .2) (record {
       did = λ h. refusing h s (resolve-questions (k .scale) s i j x to) (grants (worked (resolve-done (k .scale) s i j x to))) (c .in-Break-r .field-0 .0) (c .in-Break-r .ensures tt .is h);
-      refused = (refl, refl, refl)
+      refused = (refl, refl, refl);
     })
 
 pub returns : need.returns
@@ -44,15 +44,15 @@ returns g c =
     let r = c .in-Continue-r .r in
     record {
       did = λ h.
-        let passed = c .in-Continue-r .ensures tt .is h in
-        let res = c .in-Continue-r .ensures tt .resolution h in
-        let P : List (List ℕ) → Type 0 = λ rs. Placeable v to rs in
-        let may = subst P (sym (same-results v i j x (res .with-i-is) (res .with-j-is))) (placeable (k .scale) s i j x to passed) in
-        let put = c .carry-out .ensures h may in
-        granting (put .fine) s (resolve-questions (k .scale) s i j x to) (grants (worked (resolve-done (k .scale) s i j x to))) passed refl
-        (resolved-state (k .scale) s i j x to (dues-of (k .figures) (r .weighed)) (r .«with_i») (r .«with_j») (c .mark-after-mark .result) _ _
+          let passed = c .in-Continue-r .ensures tt .is h in
+          let res = c .in-Continue-r .ensures tt .resolution h in
+          let P : List (List ℕ) → Type 0 = λ rs. Placeable v to rs in
+          let may = subst P (sym (same-results v i j x (res .with-i-is) (res .with-j-is))) (placeable (k .scale) s i j x to passed) in
+          let put = c .carry-out .ensures h may in
+          granting (put .fine) s (resolve-questions (k .scale) s i j x to) (grants (worked (resolve-done (k .scale) s i j x to))) passed refl
+          (resolved-state (k .scale) s i j x to (dues-of (k .figures) (r .weighed)) (r .«with_i») (r .«with_j») (c .mark-after-mark .result) _ _
           (res .dues-are) (res .with-i-is) (res .with-j-is)
           (c .mark-after-mark .ensures ∙ ap (λ (e : Bool). s .bench .impossible || (e && is-hard (cell-of (k .figures) (r .weighed .common)))) (res .empty-is))
           (put .view) (put .cells));
-      refused = tt
+      refused = tt;
     }

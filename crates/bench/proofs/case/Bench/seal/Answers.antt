@@ -14,7 +14,7 @@ returns-in-Break-ask-seal g c =
     let p = err-from-errBy (c .from-residual .result) (c .from-residual .ensures .1) in
     rw (p .1, p .2) (record {
       did = λ h. refusing h s (seal-questions s) (grants (with-bench s (with-phase (s .bench) sealed))) (c .in-Break-ask-seal .field-0 .0) (c .in-Break-ask-seal .ensures tt h);
-      refused = refl
+      refused = refl;
     })
 
 pub returns : need.returns
@@ -23,5 +23,5 @@ returns g c =
     let s = state-of (g .K·CostKind .kind) (c .args .self .now) (g .S·Shelf .view (c .args .shelf .now)) (c .args .ledger .now) in
     record {
       did = λ h. granting h s (seal-questions s) (grants (with-bench s (with-phase (s .bench) sealed))) (c .in-Continue-ask-seal .ensures tt h) refl refl;
-      refused = tt
+      refused = tt;
     }

@@ -15,7 +15,7 @@ returns-in-Break-owing g c =
     let p = err-from-errBy (c .from-residual .result) (c .from-residual .ensures .1) in
     rw (p .1, p .2) (record {
       did = λ h. refusing h s (show-questions (k .scale) s x) (show-done s x) (c .in-Break-owing .field-0 .0) (c .in-Break-owing .ensures tt .is h);
-      refused = refl
+      refused = refl;
     })
 
 pub returns : need.returns
@@ -26,8 +26,8 @@ returns g c =
     let x = c .args .strip .now in
     record {
       did = λ h.
-        let b = c .in-Continue-owing .ensures tt .bill h in
-        granting h s (show-questions (k .scale) s x) (show-done s x) (c .in-Continue-owing .ensures tt .is h) (ap₂ shown-at (b .cost-is) (b .count-is))
-        (same-state (ap (with-shown (s .bench)) (b .cost-is)) refl refl);
-      refused = tt
+          let b = c .in-Continue-owing .ensures tt .bill h in
+          granting h s (show-questions (k .scale) s x) (show-done s x) (c .in-Continue-owing .ensures tt .is h) (ap₂ shown-at (b .cost-is) (b .count-is))
+          (same-state (ap (with-shown (s .bench)) (b .cost-is)) refl refl);
+      refused = tt;
     }

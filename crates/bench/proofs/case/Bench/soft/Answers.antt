@@ -31,7 +31,7 @@ returns-in-Break-accepted g c =
     let p = err-from-errBy (c .from-residual .result) (c .from-residual .ensures .1) in
     rw (p .1, p .2) (record {
       did = λ h. refusing h s (soft-questions (k .scale) s (c .args .place) xs cs) (grants (soft-done s (c .args .place) xs cs)) (c .in-Break-accepted .field-0 .0) (c .in-Break-accepted .ensures tt .is h);
-      refused = (refl, refl, refl)
+      refused = (refl, refl, refl);
     })
 
 pub returns-then-clause-ne0 : need.returns-then-clause-ne0
@@ -49,17 +49,17 @@ returns-then-clause-ne0 g c =
     let n = some-given (c .args .clause .now) (c .if-clause-ne0 .taken) in
     record {
       did = λ h.
-        let passed = c .in-Continue-accepted .ensures tt .is h in
-        let took = c .in-Continue-accepted .ensures tt .accepted h in
-        let q = clause-passed s p cs _ passed in
-        let F : List ℕ → Type 0 = λ ys.
+          let passed = c .in-Continue-accepted .ensures tt .is h in
+          let took = c .in-Continue-accepted .ensures tt .accepted h in
+          let q = clause-passed s p cs _ passed in
+          let F : List ℕ → Type 0 = λ ys.
           Writable v p ys
           → Put (g .S·Shelf .fine (c .put-clause .last .shelf)) (g .S·Shelf .view (c .put-clause .last .shelf)) (with-held v (set (v .held) p ys)) (cells-of k (c .put-clause .last .ledger)) (set l p (soft (k .figures (a .amount)))) in
-        let put = subst F (took .copied) (c .put-clause .ensures h) (may-write s p cs (q .0) (q .1) n) in
-        granting (put .fine) s (soft-questions (k .scale) s p xs cs) (grants (soft-done s p xs cs)) passed refl
-        (same-state (soft-sums (s .bench) xs (k .figures (a .total)) (k .figures (a .proved)) cs (took .total-is) (took .proved-is)) (put .view) (put .cells ∙ ap (λ (y : List ℤ). set l p (soft y)) (took .amount-is))
-        ∙ ap (λ (b : Bool). cond b given (placed given p cs (soft xs))) (sym n));
-      refused = tt
+          let put = subst F (took .copied) (c .put-clause .ensures h) (may-write s p cs (q .0) (q .1) n) in
+          granting (put .fine) s (soft-questions (k .scale) s p xs cs) (grants (soft-done s p xs cs)) passed refl
+          (same-state (soft-sums (s .bench) xs (k .figures (a .total)) (k .figures (a .proved)) cs (took .total-is) (took .proved-is)) (put .view) (put .cells ∙ ap (λ (y : List ℤ). set l p (soft y)) (took .amount-is))
+          ∙ ap (λ (b : Bool). cond b given (placed given p cs (soft xs))) (sym n));
+      refused = tt;
     }
 
 pub returns-else-clause-ne0 : need.returns-else-clause-ne0
@@ -77,10 +77,10 @@ returns-else-clause-ne0 g c =
     let n = none-given (c .args .clause .now) (c .if-clause-ne0 .left) in
     record {
       did = λ h.
-        let passed = c .in-Continue-accepted .ensures tt .is h in
-        let took = c .in-Continue-accepted .ensures tt .accepted h in
-        granting h s (soft-questions (k .scale) s p xs cs) (grants (soft-done s p xs cs)) passed refl
-        (same-state (soft-sums (s .bench) xs (k .figures (a .total)) (k .figures (a .proved)) cs (took .total-is) (took .proved-is)) refl refl
-        ∙ ap (λ (b : Bool). cond b given (placed given p cs (soft xs))) (sym n));
-      refused = tt
+          let passed = c .in-Continue-accepted .ensures tt .is h in
+          let took = c .in-Continue-accepted .ensures tt .accepted h in
+          granting h s (soft-questions (k .scale) s p xs cs) (grants (soft-done s p xs cs)) passed refl
+          (same-state (soft-sums (s .bench) xs (k .figures (a .total)) (k .figures (a .proved)) cs (took .total-is) (took .proved-is)) refl refl
+          ∙ ap (λ (b : Bool). cond b given (placed given p cs (soft xs))) (sym n));
+      refused = tt;
     }

@@ -15,8 +15,8 @@ returns-then-clause-longest-clause g c =
     record {
       low = tt;
       is = λ h.
-        let l = c .longest-clause .ensures .is h in
-        too-long (c .args .n) (g .S·Shelf .view (c .args .shelf .now)) (c .args .clause .now) (omega (arith, c .if-clause-longest-clause .taken))
+          let l = c .longest-clause .ensures .is h in
+          too-long (c .args .n) (g .S·Shelf .view (c .args .shelf .now)) (c .args .clause .now) (omega (arith, c .if-clause-longest-clause .taken));
     }
 
 pub returns-then-not-rises : need.returns-then-not-rises
@@ -24,11 +24,11 @@ returns-then-not-rises g c =
     record {
       low = tt;
       is = λ h.
-        let v = g .S·Shelf .view (c .args .shelf .now) in
-        let ls = c .args .clause .now in
-        let low = c .longest-clause .ensures .low in
-        let w = copied ls (c .copy-codes-count .result) (c .longest-clause .result) (c .copy-codes-count .last .out) (c .copy-codes-count .ensures .count) (c .copy-codes-count .ensures .is) (c .if-clause-longest-clause .left) low in
-        not-rising (c .args .n) v (codes ls) (sym (c .if-not-rises .taken) ∙ c .rises .ensures ∙ ap (λ (xs : List ℕ). rises (c .known-variables .result) 0 xs) w ∙ ap (λ (i : ℕ). rises i 0 (codes ls)) (c .known-variables .ensures h))
+          let v = g .S·Shelf .view (c .args .shelf .now) in
+          let ls = c .args .clause .now in
+          let low = c .longest-clause .ensures .low in
+          let w = copied ls (c .copy-codes-count .result) (c .longest-clause .result) (c .copy-codes-count .last .out) (c .copy-codes-count .ensures .count) (c .copy-codes-count .ensures .is) (c .if-clause-longest-clause .left) low in
+          not-rising (c .args .n) v (codes ls) (sym (c .if-not-rises .taken) ∙ c .rises .ensures ∙ ap (λ (xs : List ℕ). rises (c .known-variables .result) 0 xs) w ∙ ap (λ (i : ℕ). rises i 0 (codes ls)) (c .known-variables .ensures h));
     }
 
 pub returns : need.returns
@@ -36,11 +36,11 @@ returns g c =
     record {
       low = omega (arith, c .copy-codes-count .ensures .count);
       is = λ h.
-        let v = g .S·Shelf .view (c .args .shelf .now) in
-        let ls = c .args .clause .now in
-        let l = c .longest-clause .ensures .is h in
-        let low = c .longest-clause .ensures .low in
-        let w = copied ls (c .copy-codes-count .result) (c .longest-clause .result) (c .copy-codes-count .last .out) (c .copy-codes-count .ensures .count) (c .copy-codes-count .ensures .is) (c .if-clause-longest-clause .left) low in
-        let m : length (codes (c .args .clause .now)) ≤ g .S·Shelf .view (c .args .shelf .now) .longest = simp length-map (omega (arith, c .if-clause-longest-clause .left)) in
-        fitting (c .args .n) v (codes ls) _ (sym (c .if-not-rises .left) ∙ c .rises .ensures ∙ ap (λ (xs : List ℕ). rises (c .known-variables .result) 0 xs) w ∙ ap (λ (i : ℕ). rises i 0 (codes ls)) (c .known-variables .ensures h)) m w
+          let v = g .S·Shelf .view (c .args .shelf .now) in
+          let ls = c .args .clause .now in
+          let l = c .longest-clause .ensures .is h in
+          let low = c .longest-clause .ensures .low in
+          let w = copied ls (c .copy-codes-count .result) (c .longest-clause .result) (c .copy-codes-count .last .out) (c .copy-codes-count .ensures .count) (c .copy-codes-count .ensures .is) (c .if-clause-longest-clause .left) low in
+          let m : length (codes (c .args .clause .now)) ≤ g .S·Shelf .view (c .args .shelf .now) .longest = simp length-map (omega (arith, c .if-clause-longest-clause .left)) in
+          fitting (c .args .n) v (codes ls) _ (sym (c .if-not-rises .left) ∙ c .rises .ensures ∙ ap (λ (xs : List ℕ). rises (c .known-variables .result) 0 xs) w ∙ ap (λ (i : ℕ). rises i 0 (codes ls)) (c .known-variables .ensures h)) m w;
     }

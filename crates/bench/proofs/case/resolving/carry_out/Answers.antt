@@ -24,5 +24,5 @@ returns g c h q =
     record {
       fine = t .fine;
       view = t .view ∙ ap (λ (v : View). freed-if (is-nothing (k .scale .tiers) b) v (c .args .j)) (s .view ∙ ap (λ (v : View). freed-if (is-nothing (k .scale .tiers) a) v (c .args .i)) (p .view));
-      cells = t .cells ∙ ap (λ (l : List Cell). set l (c .args .j) b) (s .cells ∙ ap (λ (l : List Cell). set l (c .args .i) a) placed)
+      cells = t .cells ∙ ap (λ (l : List Cell). set l (c .args .j) b) (s .cells ∙ ap (λ (l : List Cell). set l (c .args .i) a) placed);
     }
