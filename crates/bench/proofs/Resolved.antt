@@ -20,8 +20,7 @@ use Rattle.rules.specs.Filling.{ledger-long}
 use Rattle.rules.specs.Cells.{Cell, is-hard, is-nothing}
 use Rattle.rules.specs.Questions.{Reply, Question, Verdict, passes, stops, after-reply, reply-of, reach-reply, first-no}
 use Rattle.rules.specs.Results.{kept, short-enough, has-empty, laid, alike}
-use Rattle.rules.specs.Steps.{step-fits, worked, freed-if, cell-in, results-at, resolve-news, resolve-questions, resolve-done}
-use Rattle.bench.specs.Asked.{source-questions, result-questions}
+use Rattle.rules.specs.Steps.{step-fits, source-questions, result-questions, worked, freed-if, cell-in, results-at, resolve-news, resolve-questions, resolve-done}
 use Rattle.bench.proofs.Verdicts.{stop-early, go-on, told-ok, told-err}
 use Rattle.bench.proofs.Doing.{yes-then, same-state}
 

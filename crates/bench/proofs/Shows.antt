@@ -2,29 +2,20 @@
 use mathlib.Core.Bool.{Bool, true, false, not, _&&_}
 use mathlib.Core.List.{List, [], _∷_}
 use mathlib.Core.Path.{_≡_, refl, sym, _∙_, ap}
-use Prim.Native.Nat.{ℕ, _+_, _≤_}
+use Prim.Native.Nat.{ℕ, _+_}
 use native.Mathlib.Nat.{zero-add}
-use lib.Dec.{leb}
 use lib.IntN.{ℤ}
 use lib.ListN.{length}
-use Rattle.std.proofs.shelf.Lists.{length-map}
-use Rattle.std.proofs.shelf.Tests.{and-left, and-from, leb-true}
+use Rattle.std.proofs.shelf.Tests.{and-left, and-from}
 use Rattle.std.specs.declared.result.Result.the-variants.{Ok, Err}
-use Rattle.cost.specs.Kinds.{Kind}
 use Rattle.cost.specs.Reach.{Scale}
 use Rattle.ledger.specs.Bills.{Bill, billed}
-use Rattle.ledger.specs.Meaning.{cell-of, cells-of}
-use Rattle.ledger.specs.declared.cell.Cell.{Cell}
 use Rattle.rules.specs.Case.{State, is-sealed}
 use Rattle.rules.specs.Filling.{ledger-long}
 use Rattle.rules.specs.Plans.{is-plan}
 use Rattle.rules.specs.Questions.{Reply, Verdict, passes, stops, reply-of, after-reply, reach-reply, first-no}
 use Rattle.rules.specs.Showing.{hard-met, partial-sums, summed, owed-in, show-questions}
 use Rattle.bench.proofs.Verdicts.{yes, no-at, told-ok, told-err}
-
--- the ledger has a cell for each place
-pub long-enough : {A W : Type 0} (k : Kind A W) (n : ℕ) (l : List (Cell W)) → leb n (length (cells-of k l)) ≡ true → n ≤ length l
-long-enough k n l e = rw (length-map l (cell-of (k .back))) at (leb-true n (length (cells-of k l)) e)
 
 module _ (k : Scale) (s : State) (x : List ℕ) (a₁ : ledger-long s ≡ true) (a₂ : is-sealed (s .bench .phase) ≡ true) (a₇ : is-plan (s .bench .n) x ≡ true) where
   abbrev reply : Reply

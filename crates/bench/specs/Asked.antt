@@ -1,28 +1,39 @@
--- What the questions of a call came to, before anything is changed.
+-- What the questions of a call came to, before anything is changed, and what carrying
+-- out a resolve then does.
 --
 --   verdict-told   the rules' verdict of a result
 --   clause-told    the codes that were copied, where a clause fits
---   Asked-X        the verdict is that of X's questions, and what was worked out on
---                  the way is what the rules' effect needs
-use mathlib.Core.Bool.{Bool, cond, not, _&&_}
-use mathlib.Core.List.{List, [], _∷_}
+--   Copied         on a grant, the front of `out` is the clause
+--   Accepts, Soft-taken    on a grant, what a soft clause comes to
+--   Bills, Bill-of         on a grant, the shown plan's cost and count
+--   Resolves, Resolution-of   on a grant, what a resolve comes to
+--   Empties        on a grant, whether a result is empty
+--   results-of     the results that a resolve places
+--   left-view, left-cells, Carried   what a resolve leaves on shelf and ledger
+use mathlib.Core.Bool.{Bool, not}
+use mathlib.Core.List.{List}
 use mathlib.Core.Path.{_≡_}
-use Prim.Native.Nat.{ℕ, _+_, _*_}
+use Prim.Native.Nat.{ℕ}
 use lib.IntN.{ℤ}
-use lib.ListN.{length, take}
+use lib.ListN.{length, set, take}
 use Rattle.std.specs.declared.option.Option.{Option}
 use Rattle.std.specs.declared.option.Option.the-variants.{Some, None}
 use Rattle.std.specs.declared.result.Result.{Result}
 use Rattle.std.specs.declared.result.Result.the-variants.{Ok, Err}
 use Rattle.cost.specs.Figures.{plus}
-use Rattle.rules.specs.Cells.{Cell, soft, is-hard, paid}
-use Rattle.rules.specs.Questions.{Question, asks, Verdict, passes, stops}
-use Rattle.rules.specs.Results.{kept, short-enough}
+use Rattle.rules.specs.Cells.{Cell, soft, is-hard, is-nothing, paid}
+use Rattle.rules.specs.Questions.{Verdict, passes, stops}
+use Rattle.rules.specs.Results.{kept, laid, alike}
 use Rattle.rules.specs.Showing.{summed}
-use Rattle.shelf.specs.Literals.{among, none}
-use Rattle.shelf.specs.Room.{filled, roomy}
-use Rattle.shelf.specs.View.{View, clause}
+use Rattle.shelf.specs.Literals.{none}
+use Rattle.shelf.specs.View.{View}
+use Rattle.cost.specs.Kinds.{Kind}
 use Rattle.ledger.specs.Dues.{dues, dues-of}
+use Rattle.ledger.specs.Meaning.{cell-of, cells-of}
+use Rattle.ledger.specs.declared.cell.Cell.{Cell as CodeCell}
+use Rattle.results.specs.Placing.{after-placing}
+use Rattle.results.specs.Resolving.{resolvents-at}
+use Rattle.rules.specs.Steps.{freed-if}
 use Rattle.bench.specs.declared.case.accepted.Accepted.{Accepted}
 use Rattle.bench.specs.declared.case.resolution.Resolution.{Resolution}
 use Rattle.bench.specs.declared.fault.Fault.{Fault}
@@ -40,12 +51,6 @@ clause-told out (Some n) = Some (take n out)
 abbrev pub Copied : List ℕ → List ℕ → Result ℕ Fault → Type 0
 Copied out cs (Ok n) = take n out ≡ cs
 Copied out cs (Err e) = Unit {0}
-
--- shelf in order after, what it means, and the cells
-pub record Put (fine-after : Type 0) (v v-told : View) (cs cs-told : List Cell) : Type 0 where
-  pub fine : fine-after
-  pub view : v ≡ v-told
-  pub cells : cs ≡ cs-told
 
 -- on a grant, what a soft clause comes to, by exact figures
 pub record Soft-taken {A : Type 0} (f : A → List ℤ) (out cs : List ℕ) (xs total proved : List ℤ) (a : Accepted A) : Type 0 where
@@ -83,9 +88,19 @@ abbrev pub Empties : Bool → Result Bool Fault → Type 0
 Empties e (Ok b) = b ≡ e
 Empties e (Err x) = Unit {0}
 
--- the questions of a resolve about its sources, and about its results
-abbrev pub source-questions : View → ℕ → ℕ → ℕ → List Question
-source-questions v i j x = asks 9 (filled v i && filled v j) ∷ asks 10 (among (2 * x) (clause v i) && among (2 * x + 1) (clause v j)) ∷ []
+-- the results that a resolve places
+abbrev pub results-of : {A : Type 0} → View → ℕ → ℕ → ℕ → Resolution A → List (List ℕ)
+results-of v i j x r = resolvents-at v i j x (r .«with_i») (r .«with_j»)
 
-abbrev pub result-questions : View → ℕ → List (List ℕ) → List Question
-result-questions v to rs = asks 11 (short-enough (v .longest) rs) ∷ asks 12 (roomy v to (length (kept rs))) ∷ []
+-- what is left once the cells a and b have been written back at i and j
+abbrev pub left-view : ℕ → View → ℕ → ℕ → Cell → Cell → View
+left-view tiers v i j a b = freed-if (is-nothing tiers b) (freed-if (is-nothing tiers a) v i) j
+
+abbrev pub left-cells : List Cell → ℕ → ℕ → Cell → Cell → List Cell
+left-cells l i j a b = set (set l i a) j b
+
+-- what carrying out a resolve did: from the view v and the cells l to v′ and l′
+pub record Carried {A W : Type 0} (k : Kind A W) (fine-after : Type 0) (v v′ : View) (l l′ : List (CodeCell W)) (i j x to : ℕ) (r : Resolution A) : Type 0 where
+  pub fine : fine-after
+  pub view : v′ ≡ left-view (k .scale .tiers) (after-placing v to (results-of v i j x r)) i j (cell-of (k .figures) (r .weighed .«left_i»)) (cell-of (k .figures) (r .weighed .«left_j»))
+  pub cells : cells-of k l′ ≡ left-cells (laid to (alike (cell-of (k .figures) (r .weighed .common)) (kept (results-of v i j x r))) (cells-of k l)) i j (cell-of (k .figures) (r .weighed .«left_i»)) (cell-of (k .figures) (r .weighed .«left_j»))

@@ -12,14 +12,13 @@ use mathlib.Core.Path.{_≡_}
 use Prim.Native.Nat.{ℕ}
 use lib.IntN.{ℤ}
 use denote.Ref.{RefT, now}
-use Rattle.std.specs.declared.option.Option.{Option}
-use Rattle.std.specs.declared.option.Option.the-variants.{Some, None}
 use Rattle.std.specs.declared.result.Result.{Result}
 use Rattle.std.specs.declared.result.Result.the-variants.{Ok, Err}
 use Rattle.cost.specs.Kinds.{Kind}
 use Rattle.shelf.specs.View.{View}
 use Rattle.rules.specs.Case as rules
 use Rattle.rules.specs.Questions.{Answer, granted, shown-at, cheapest-at, refused, Outcome}
+use Rattle.ledger.specs.Bills.{amount-told}
 use Rattle.ledger.specs.Meaning.{cells-of}
 use Rattle.ledger.specs.declared.cell.Cell.{Cell}
 use Rattle.bench.specs.declared.case.Bench.{Bench}
@@ -35,10 +34,6 @@ phase-of Sealed = rules.sealed
 phase-of Working = rules.working
 phase-of Closed = rules.closed
 
-abbrev pub figures-if : {A : Type 0} → (A → List ℤ) → Option A → Option (List ℤ)
-figures-if f None = None
-figures-if f (Some a) = Some (f a)
-
 -- K is the kind, A its amounts and W its rows
 abbrev pub case-of : {K A W : Type 0} → Kind A W → Bench K A W → rules.Case
 case-of k b = record {
@@ -48,7 +43,7 @@ case-of k b = record {
   total = k .figures (b .total);
   proved = k .figures (b .proved);
   impossible = b .impossible;
-  shown = figures-if (k .figures) (b .shown);
+  shown = amount-told (k .figures) (b .shown);
 }
 
 abbrev pub state-of : {K A W : Type 0} → Kind A W → Bench K A W → View → List (Cell W) → rules.State

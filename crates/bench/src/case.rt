@@ -2,11 +2,11 @@
 // see the private fields.
 use cost::kind::CostKind;
 
-pub mod accepted;
-pub mod asking;
+mod accepted;
+mod asking;
 pub mod claiming;
 pub mod filling;
-pub mod resolution;
+mod resolution;
 pub mod resolving;
 pub mod showing;
 

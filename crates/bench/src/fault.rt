@@ -1,4 +1,5 @@
-// Why the bench refuses a call: a case for each question that can be denied.
+// Why the bench refuses a call: a case for each question, and for question 10 one for
+// each step that is put it.
 use cost::tier::Tier;
 use cost::tier::TierDebug;
 use cost::tier::TierPartialEq;
@@ -26,8 +27,17 @@ pub enum Fault {
     HardClauseUnmet,
     // A source place is not there, or free.
     SourceUnfit,
-    // Place i has not the variable, or place j not its opposite.
+    // Of a resolve: place i has not the variable, or place j not its opposite.
     LiteralMissing,
+    // Of a split: the variable is not 1 to the current number, or stands there.
+    VariableUnfit,
+    // Of a join: the places are one, or their clauses differ.
+    ClausesDiffer,
+    // Of a define: no literal, or the variables do not rise up to the current number,
+    // or there is no next variable.
+    DefinitionUnfit,
+    // Of a harden: the clause is hard already.
+    AlreadyHard,
     // A result has more literals than a place may have.
     ResultTooLong,
     // A place that a result would take is not there, or not free.
@@ -36,6 +46,10 @@ pub enum Fault {
     OutOfReach(Tier),
     // No plan has been shown.
     NoPlanShown,
+    // The clause does not cost more than the shown plan.
+    NotDearer,
     // The proved cost is not the shown plan's.
     CostsDiffer,
+    // The impossible mark is not set.
+    NotMarked,
 }

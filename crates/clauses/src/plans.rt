@@ -21,16 +21,20 @@ pub fn is_plan(strip: &[u8], n: usize) -> bool
     true
 }
 
-// The value of a variable, counted from 1; 0 past the strip's end.
+// The value of a variable, counted from 1; 0 past the strip's end, and for 0, which
+// is no variable.
 fn value_of(strip: &[u8], variable: usize) -> u8
     ensures { λ r. ⌜ r ≡ value (now (strip .entry)) variable ⌝ }
 {
-    let at = if variable > 0 { variable - 1 } else { 0 };
+    if variable == 0 {
+        return 0;
+    }
+    let at = variable - 1;
     if at < strip.len() { strip[at] } else { 0 }
 }
 
 // Whether the plan makes the literal true; a variable past the strip has the value 0.
-pub fn makes_literal_true(strip: &[u8], literal: Literal) -> bool
+fn makes_literal_true(strip: &[u8], literal: Literal) -> bool
     ensures { λ r. ⌜ r ≡ makes-true (now (strip .entry)) (literal .code) ⌝ }
 {
     let v = literal.variable() as usize;

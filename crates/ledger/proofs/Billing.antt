@@ -2,12 +2,14 @@
 -- what is left of the shelf and the ledger makes up the whole.
 use mathlib.Core.Bool.{Bool, true, false, cond, _&&_, _||_}
 use mathlib.Core.List.{List, [], _∷_, map}
+use mathlib.Core.Logic.{inl, inr}
 use mathlib.Core.Path.{_≡_, refl, sym, _∙_, ap}
-use Prim.Native.Nat.{ℕ, suc, _+_, _<_, _≤_}
+use Prim.Native.Nat.{ℕ, suc, _+_, _<_, _≤_, min}
 use native.Mathlib.Omega.{arith}
 use lib.IntN.{ℤ}
 use lib.ListN.{length, getD, drop}
 use Rattle.std.proofs.shelf.Lists.{drop-more, drop-all}
+use Rattle.std.proofs.shelf.Tests.{cases-lt}
 use Rattle.std.specs.declared.option.Option.{Option}
 use Rattle.std.specs.declared.option.Option.the-variants.{Some, None}
 use Rattle.std.specs.declared.result.Result.{Result}
@@ -52,14 +54,30 @@ module _ (x : List ℕ) (held : List (List ℕ)) (ks : List Cell) (p : ℕ) (d :
   pub owed-some : (a : List ℤ) → Some a ≡ owing x (getD held p []) (getD ks p d) → owed x (drop p held) (drop p ks) ≡ a ∷ owed x (drop (p + 1) held) (drop (p + 1) ks)
   owed-some a e = owed-turn ∙ ap (λ o. prepend o (owed x (drop (p + 1) held) (drop (p + 1) ks))) (sym e)
 
--- past the last place nothing is left
-pub owed-end : (x : List ℕ) (held : List (List ℕ)) (ks : List Cell) (p : ℕ) → length held ≤ p → owed x (drop p held) (drop p ks) ≡ []
+-- past the last place, or the last cell, nothing is left
+owed-bare : (x : List ℕ) (held : List (List ℕ)) → owed x held [] ≡ []
 unfolding owed
-owed-end x held ks p h = ap (λ (hs : List (List ℕ)). owed x hs (drop p ks)) (drop-all p held h)
+owed-bare x [] = refl
+owed-bare x (c ∷ cs) = refl
 
-pub met-end : (x : List ℕ) (held : List (List ℕ)) (ks : List Cell) (p : ℕ) → length held ≤ p → hard-met x (drop p held) (drop p ks) ≡ true
+met-bare : (x : List ℕ) (held : List (List ℕ)) → hard-met x held [] ≡ true
 unfolding hard-met
-met-end x held ks p h = ap (λ (hs : List (List ℕ)). hard-met x hs (drop p ks)) (drop-all p held h)
+met-bare x [] = refl
+met-bare x (c ∷ cs) = refl
+
+pub owed-end : (x : List ℕ) (held : List (List ℕ)) (ks : List Cell) (p : ℕ) → min (length held) (length ks) ≤ p → owed x (drop p held) (drop p ks) ≡ []
+unfolding owed
+owed-end x held ks p h =
+    elim (cases-lt p (length held)) [
+      inl l ↦ ap (owed x (drop p held)) (drop-all p ks (omega arith)) ∙ owed-bare x (drop p held)
+    | inr l ↦ ap (λ (hs : List (List ℕ)). owed x hs (drop p ks)) (drop-all p held l) ]
+
+pub met-end : (x : List ℕ) (held : List (List ℕ)) (ks : List Cell) (p : ℕ) → min (length held) (length ks) ≤ p → hard-met x (drop p held) (drop p ks) ≡ true
+unfolding hard-met
+met-end x held ks p h =
+    elim (cases-lt p (length held)) [
+      inl l ↦ ap (hard-met x (drop p held)) (drop-all p ks (omega arith)) ∙ met-bare x (drop p held)
+    | inr l ↦ ap (λ (hs : List (List ℕ)). hard-met x hs (drop p ks)) (drop-all p held l) ]
 
 -- one amount more, in reach
 pub billed-more : (k : Scale) (z a w : List ℤ) (os : List (List ℤ)) (n : ℕ) → Ok w ≡ reached k (plus z a) → billed k w os (n + 1) ≡ billed k z (a ∷ os) n

@@ -9,7 +9,7 @@ use cost::kind::CostKind;
 use std::cmp::Ordering;
 
 // Whether an amount is nothing.
-pub fn is_zero<K: CostKind>(amount: K::Amount) -> bool
+pub(crate) fn is_zero<K: CostKind>(amount: K::Amount) -> bool
     ensures { λ r. ⌜ r ≡ isEq (order (kind .figures amount) (zeros (kind .scale .tiers))) ⌝ }
 {
     match K::compare(amount, K::nothing()) {

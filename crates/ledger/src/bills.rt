@@ -1,8 +1,7 @@
 // A plan against the clauses on the shelf: whether it meets every hard one, and
 // what the soft ones cost that it leaves unmet.
 ghost use mathlib.Core.Path.{_≡_};
-ghost use Prim.Native.Nat.{ℕ, _≤_};
-ghost use lib.ListN.{length};
+ghost use Prim.Native.Nat.{_≤_, min};
 ghost use Rattle.cost.specs.Kinds.{Kind};
 ghost use Rattle.rules.specs.Case.{cell-at};
 ghost use Rattle.rules.specs.Showing.{hard-met, met-at, owed};
@@ -62,12 +61,20 @@ fn amount_owed<K: CostKind, S: Shelf>(
     }
 }
 
-// Whether the plan meets every hard clause on the shelf; the ledger has a cell for
-// each place.
-pub fn meets_hard<K: CostKind, S: Shelf>(shelf: &S, ledger: &[Cell<K::Row>], strip: &[u8]) -> bool
-    ensures { λ r. ⌜ (fine (now (shelf .entry)) → view (now (shelf .entry)) .places ≤ length (now (ledger .entry)) → r ≡ hard-met (now (strip .entry)) (view (now (shelf .entry)) .held) (cells-of kind (now (ledger .entry)))) ⌝ }
+// How many places have a cell.
+fn covered<S: Shelf>(shelf: &S, cells: usize) -> usize
+    ensures low { λ r. ⌜ r ≤ 65535 ⌝ }
+    ensures is { λ r. ⌜ (fine (now (shelf .entry)) → r ≡ min (view (now (shelf .entry)) .places) cells) ⌝ }
 {
     let count = shelf.place_count();
+    if count < cells { count } else { cells }
+}
+
+// Whether the plan meets every hard clause on the shelf, as far as there are cells.
+pub fn meets_hard<K: CostKind, S: Shelf>(shelf: &S, ledger: &[Cell<K::Row>], strip: &[u8]) -> bool
+    ensures { λ r. ⌜ (fine (now (shelf .entry)) → r ≡ hard-met (now (strip .entry)) (view (now (shelf .entry)) .held) (cells-of kind (now (ledger .entry)))) ⌝ }
+{
+    let count = covered(shelf, ledger.len());
     for p in 0..count {
         if !met_if_hard::<K, S>(shelf, ledger, p, strip) {
             return false;
@@ -77,18 +84,18 @@ pub fn meets_hard<K: CostKind, S: Shelf>(shelf: &S, ledger: &[Cell<K::Row>], str
 }
 
 // The proved cost with the amounts of the soft clauses that the plan leaves unmet,
-// and how many they are; the ledger has a cell for each place.
+// and how many they are, as far as there are cells.
 pub fn bill<K: CostKind, S: Shelf>(
     shelf: &S,
     ledger: &[Cell<K::Row>],
     strip: &[u8],
     proved: K::Amount,
 ) -> Result<(K::Amount, usize), Tier>
-    ensures { λ r. ⌜ (fine (now (shelf .entry)) → view (now (shelf .entry)) .places ≤ length (now (ledger .entry)) → bill-told (kind .figures) r ≡ billed (kind .scale) (kind .figures proved) (owed (now (strip .entry)) (view (now (shelf .entry)) .held) (cells-of kind (now (ledger .entry)))) 0) ⌝ }
+    ensures { λ r. ⌜ (fine (now (shelf .entry)) → bill-told (kind .figures) r ≡ billed (kind .scale) (kind .figures proved) (owed (now (strip .entry)) (view (now (shelf .entry)) .held) (cells-of kind (now (ledger .entry)))) 0) ⌝ }
 {
     let mut cost = proved;
     let mut unmet: usize = 0;
-    let count = shelf.place_count();
+    let count = covered(shelf, ledger.len());
     for p in 0..count {
         match amount_owed::<K, S>(shelf, ledger, p, strip) {
             None => {}

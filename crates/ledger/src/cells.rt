@@ -33,7 +33,7 @@ pub fn is_nothing<K: CostKind>(cell: Cell<K::Amount>) -> bool
 }
 
 // The smaller of two cells, hard counting as greater than all.
-pub fn smaller<K: CostKind>(a: Cell<K::Amount>, b: Cell<K::Amount>) -> Cell<K::Amount>
+pub(crate) fn smaller<K: CostKind>(a: Cell<K::Amount>, b: Cell<K::Amount>) -> Cell<K::Amount>
     ensures { λ r. ⌜ cell-of (kind .figures) r ≡ smaller-of (cell-of (kind .figures) a) (cell-of (kind .figures) b) ⌝ }
 {
     match a {

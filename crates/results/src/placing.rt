@@ -5,6 +5,8 @@ ghost use mathlib.Core.Path.{_≡_};
 ghost use Prim.Native.Nat.{_+_};
 ghost use lib.ListN.{length, set};
 ghost use Rattle.rules.specs.Results.{alike, kept, laid};
+ghost use Rattle.shelf.specs.Answers.{Became};
+ghost use Rattle.shelf.specs.View.{with-held};
 ghost use Rattle.results.specs.Parents.{listed};
 ghost use Rattle.results.specs.Placing.{Laid, Placeable, after-placing};
 ghost use Rattle.results.specs.Spread.{All-spread, Spread};
@@ -34,6 +36,7 @@ fn place_one<S: Shelf, C: Copy>(
 ) -> usize
     ensures next { λ r. ⌜ (fine (now (shelf .entry)) → Spread (view (now (shelf .entry)) .highest) 2 (now (codes .entry)) → Placeable (view (now (shelf .entry))) place (now (codes .entry) ∷ []) → r ≡ place + length (kept (now (codes .entry) ∷ []))) ⌝ }
     ensures did { λ r. ⌜ (fine (now (shelf .entry)) → Spread (view (now (shelf .entry)) .highest) 2 (now (codes .entry)) → Placeable (view (now (shelf .entry))) place (now (codes .entry) ∷ []) → Laid (fine (now (shelf .exit))) (view (now (shelf .exit))) (after-placing (view (now (shelf .entry))) place (now (codes .entry) ∷ [])) (now (cells .exit)) (laid place (alike m (kept (now (codes .entry) ∷ []))) (now (cells .entry)))) ⌝ }
+    ensures framed { λ _. ⌜ (fine (now (shelf .entry)) → Became (fine (now (shelf .exit))) (view (now (shelf .exit))) (with-held (view (now (shelf .entry))) (view (now (shelf .exit)) .held))) ⌝ }
 {
     if codes.len() == 0 {
         return place;
@@ -57,7 +60,8 @@ pub(crate) fn place_all<S: Shelf, C: Copy>(
     to: usize,
     m: C,
 )
-    ensures { λ _. ⌜ (fine (now (shelf .entry)) → All-spread (view (now (shelf .entry)) .highest) (listed (now (ps .entry))) → Placeable (view (now (shelf .entry))) to (listed (now (ps .entry))) → Laid (fine (now (shelf .exit))) (view (now (shelf .exit))) (after-placing (view (now (shelf .entry))) to (listed (now (ps .entry)))) (now (cells .exit)) (laid to (alike m (kept (listed (now (ps .entry))))) (now (cells .entry)))) ⌝ }
+    ensures did { λ _. ⌜ (fine (now (shelf .entry)) → All-spread (view (now (shelf .entry)) .highest) (listed (now (ps .entry))) → Placeable (view (now (shelf .entry))) to (listed (now (ps .entry))) → Laid (fine (now (shelf .exit))) (view (now (shelf .exit))) (after-placing (view (now (shelf .entry))) to (listed (now (ps .entry)))) (now (cells .exit)) (laid to (alike m (kept (listed (now (ps .entry))))) (now (cells .entry)))) ⌝ }
+    ensures framed { λ _. ⌜ (fine (now (shelf .entry)) → Became (fine (now (shelf .exit))) (view (now (shelf .exit))) (with-held (view (now (shelf .entry))) (view (now (shelf .exit)) .held))) ⌝ }
 {
     let mut out = [0u32; 510];
     let mut place = to;

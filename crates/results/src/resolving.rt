@@ -4,7 +4,8 @@ ghost use mathlib.Core.Path.{_≡_};
 ghost use Prim.Native.Nat.{_≤_};
 ghost use Rattle.rules.specs.Clauses.{without as left-without};
 ghost use Rattle.rules.specs.Results.{alike, kept, laid};
-ghost use Rattle.shelf.specs.View.{clause};
+ghost use Rattle.shelf.specs.Answers.{Became};
+ghost use Rattle.shelf.specs.View.{clause, with-held};
 ghost use Rattle.results.specs.Counting.{tally-of};
 ghost use Rattle.results.specs.Parents.{codes-of, listed};
 ghost use Rattle.results.specs.Placing.{Laid, Placeable, after-placing};
@@ -82,7 +83,9 @@ pub fn survey_resolve<S: Shelf>(
     survey(&parents, shelf.longest_clause())
 }
 
-// Places those results from `to` on, each with the cell m.
+// Places those results from `to` on, each with the cell m. Where they are not
+// placeable the shelf is still in order after, and nothing but what is held and the
+// cells may have changed.
 pub fn place_resolve<S: Shelf, C: Copy>(
     shelf: &mut S,
     cells: &mut [C],
@@ -94,7 +97,8 @@ pub fn place_resolve<S: Shelf, C: Copy>(
     to: usize,
     m: C,
 )
-    ensures { λ _. ⌜ (fine (now (shelf .entry)) → Placeable (view (now (shelf .entry))) to (resolvents-at (view (now (shelf .entry))) i j variable «with_i» «with_j») → Laid (fine (now (shelf .exit))) (view (now (shelf .exit))) (after-placing (view (now (shelf .entry))) to (resolvents-at (view (now (shelf .entry))) i j variable «with_i» «with_j»)) (now (cells .exit)) (laid to (alike m (kept (resolvents-at (view (now (shelf .entry))) i j variable «with_i» «with_j»))) (now (cells .entry)))) ⌝ }
+    ensures did { λ _. ⌜ (fine (now (shelf .entry)) → Placeable (view (now (shelf .entry))) to (resolvents-at (view (now (shelf .entry))) i j variable «with_i» «with_j») → Laid (fine (now (shelf .exit))) (view (now (shelf .exit))) (after-placing (view (now (shelf .entry))) to (resolvents-at (view (now (shelf .entry))) i j variable «with_i» «with_j»)) (now (cells .exit)) (laid to (alike m (kept (resolvents-at (view (now (shelf .entry))) i j variable «with_i» «with_j»))) (now (cells .entry)))) ⌝ }
+    ensures framed { λ _. ⌜ (fine (now (shelf .entry)) → Became (fine (now (shelf .exit))) (view (now (shelf .exit))) (with-held (view (now (shelf .entry))) (view (now (shelf .exit)) .held))) ⌝ }
 {
     let parents = read_parents(shelf, i, j, variable, with_i, with_j);
     place_all(shelf, cells, &parents, to, m);

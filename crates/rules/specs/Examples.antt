@@ -7,7 +7,6 @@
 --   told k P V L calls   the answers of a new bench to a list of calls, on a blank
 --                   shelf with a cell for each place
 --   left            the state that they leave
-use mathlib.Core.Bool.{Bool, true, false}
 use mathlib.Core.List.{List, [], _∷_}
 use mathlib.Core.Path.{_≡_}
 use Prim.Native.Nat.{ℕ}
@@ -16,10 +15,10 @@ use lib.ListN.{replicate}
 use Rattle.shelf.specs.View.{View}
 use Rattle.cost.specs.Figures.{zeros}
 use Rattle.cost.specs.Reach.{Scale}
-use Rattle.rules.specs.Cells.{Cell, hard, soft}
+use Rattle.rules.specs.Cells.{hard, soft}
 use Rattle.rules.specs.Case.{State}
 use Rattle.rules.specs.Questions.{Answer, granted, shown-at, cheapest-at, refused}
-use Rattle.rules.specs.Machine.{Call, opens, gives-hard, gives-soft, seals, shows, resolves, claims-cheapest, new, answers, after-all}
+use Rattle.rules.specs.Machine.{Call, opens, gives-hard, gives-soft, seals, shows, splits, joins, resolves, defines, hardens, claims-cheapest, claims-impossible, new, answers, after-all}
 
 abbrev pub blank : ℕ → ℕ → ℕ → View
 blank P V L = record { places = P; highest = V; longest = L; held = replicate P []; remainder = [] }
@@ -111,6 +110,47 @@ no-variables = opens 0 ∷ gives-soft 0 (one 5) [] ∷ seals ∷ shows [] ∷ cl
 abbrev pub No-variables : Type 0
 No-variables = told minutes 1 1 1 no-variables ≡ granted ∷ granted ∷ granted ∷ shown-at (one 5) 0 ∷ cheapest-at (one 5) ∷ []
 
+-- Hard {1} and hard {−1} leave no plan: the claim of impossible is granted
+
+abbrev pub no-plan : List Call
+no-plan = opens 1 ∷ gives-hard 0 (2 ∷ []) ∷ gives-hard 1 (3 ∷ []) ∷ seals ∷ resolves 0 1 1 2 ∷ claims-impossible ∷ []
+
+abbrev pub No-plan : Type 0
+No-plan = told minutes 3 1 1 no-plan ≡ granted ∷ granted ∷ granted ∷ granted ∷ granted ∷ granted ∷ []
+
+-- Hardening: with {1} at 2, {2} at 3 and the plan 0 1, which costs 2, the first may
+-- not be made hard, since the plan itself leaves it unmet; the second may
+
+abbrev pub hardening : List Call
+hardening = opens 2 ∷ gives-soft 0 (one 2) (2 ∷ []) ∷ gives-soft 1 (one 3) (4 ∷ []) ∷ seals ∷ shows (0 ∷ 1 ∷ []) ∷ hardens 0 ∷ hardens 1 ∷ []
+
+abbrev pub Hardening : Type 0
+Hardening =
+    (told minutes 2 2 1 hardening ≡ granted ∷ granted ∷ granted ∷ granted ∷ shown-at (one 2) 1 ∷ refused 15 0 ∷ granted ∷ [])
+    × (left minutes 2 2 1 hardening .ledger ≡ soft (one 2) ∷ hard ∷ [])
+
+-- Split {2} with 5 on variable 1, and join what comes with {1, 2} at 4: {1, 2} with 9
+
+abbrev pub splitting : List Call
+splitting = opens 2 ∷ gives-soft 0 (one 5) (4 ∷ []) ∷ gives-soft 1 (one 4) (2 ∷ 4 ∷ []) ∷ seals ∷ splits 0 1 2 ∷ joins 0 1 ∷ []
+
+abbrev pub Splitting : Type 0
+Splitting =
+    (told minutes 4 2 2 splitting ≡ granted ∷ granted ∷ granted ∷ granted ∷ granted ∷ granted ∷ [])
+    × (left minutes 4 2 2 splitting .shelf .held ≡ (2 ∷ 4 ∷ []) ∷ [] ∷ (3 ∷ 4 ∷ []) ∷ [] ∷ [])
+    × (left minutes 4 2 2 splitting .ledger ≡ soft (one 9) ∷ soft (one 0) ∷ soft (one 5) ∷ soft (one 0) ∷ [])
+
+-- Define variable 3 as 1 or −2
+
+abbrev pub a-definition : List Call
+a-definition = opens 2 ∷ seals ∷ defines 0 (2 ∷ 5 ∷ []) ∷ []
+
+abbrev pub A-definition : Type 0
+A-definition =
+    (told minutes 4 3 3 a-definition ≡ granted ∷ granted ∷ granted ∷ [])
+    × (left minutes 4 3 3 a-definition .shelf .held ≡ (2 ∷ 5 ∷ 7 ∷ []) ∷ (3 ∷ 6 ∷ []) ∷ (4 ∷ 6 ∷ []) ∷ [] ∷ [])
+    × (left minutes 4 3 3 a-definition .ledger ≡ hard ∷ hard ∷ hard ∷ soft (one 0) ∷ [])
+
 pub record Examples : Type 0 where
   pub one-compensation-stands : One-compensation
   pub whole-case-stands : Whole-case
@@ -118,3 +158,7 @@ pub record Examples : Type 0 where
   pub two-tiers-stands : Two-tiers
   pub full-reach-stands : Full-reach
   pub no-variables-stands : No-variables
+  pub no-plan-stands : No-plan
+  pub hardening-stands : Hardening
+  pub splitting-stands : Splitting
+  pub a-definition-stands : A-definition

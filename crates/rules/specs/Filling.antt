@@ -4,7 +4,10 @@
 --   clause-fits   question 4: the variables rise, each 1 to n, at most L of them
 --   amount-fits   question 6: as many figures as tiers, each from 0 to the reach,
 --                 not all 0, and the total still in reach
+--   none-negative whether no figure is below 0
 --   placed        the state with a clause and its cell at a place
+--   with-bench    the state with another case; marked, with-sums: the case with its
+--                 mark set, or with other sums
 --   X-questions, X-done, X-does   the questions of a call, the state once it is
 --                 granted, and its outcome
 use mathlib.Core.Bool.{Bool, true, false, cond, not, _&&_, _||_}

@@ -10,3 +10,4 @@ pub mod Steps
 pub mod Claims
 pub mod Machine
 pub mod Examples
+pub mod Laws

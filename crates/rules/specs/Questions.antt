@@ -7,13 +7,15 @@
 --   asks q b    the question q, affirmed where b
 --   Verdict     passes: no question was denied; stops q t: the question q was the
 --               first, with the tier t (0 if none)
---   first-no    the verdict of a list of questions
+--   first-no    the verdict of a list of questions; after-reply, of a reply and the
+--               verdict on those after it
 --   reach-reply the reply about new amounts, in their order: the first that is
 --               out of reach is told by its first such tier
 --   Answer      granted; shown-at with cost and count; cheapest-at with the cost;
 --               or refused with a number and a tier
 --   Outcome     the answer, and the state after
---   outcome     a refused call leaves the state as it was
+--   outcome     of a verdict: a refused call leaves the state as it was
+--   grants      the outcome "granted", with the state after
 use mathlib.Core.Bool.{Bool, true, false}
 use mathlib.Core.List.{List, [], _∷_}
 use Prim.Native.Nat.{ℕ}

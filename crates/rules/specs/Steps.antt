@@ -6,6 +6,15 @@
 --   worked        the state with its case working
 --   remainders    the new amount of a parent: what a soft one keeps; none if it is
 --                 hard, since it stays
+--   cell-in       the cell of a place
+--   step-fits     questions 1 and 2, which every step and claim is put
+--   source-questions, result-questions   questions 9 and 10 of a resolve, and 11 and
+--                 12 of any results
+--   sum-news, resolve-news   the new amounts of a join and of a resolve, which
+--                 question 13 asks about in this order
+--   results-at, common   a resolve's results, and their cell
+--   taken-in      the case once an empty result, if there is one, has been taken in
+--   is-shown, costs-more   questions 14 and 15
 --   X-questions, X-done, X-does   as for the other calls
 use mathlib.Core.Bool.{Bool, true, false, cond, not, _&&_, _||_}
 use mathlib.Core.List.{List, [], _∷_, _++_}
@@ -106,13 +115,17 @@ common k s i j = smaller (cell-in k s i) (cell-in k s j)
 abbrev pub resolve-news : Bool → Cell → Cell → List ℤ → List (List ℤ)
 resolve-news e a b z = remainders a (smaller a b) ++ (remainders b (smaller a b) ++ paid-news e (smaller a b) z)
 
+abbrev pub source-questions : View → ℕ → ℕ → ℕ → List Question
+source-questions v i j x = asks 9 (filled v i && filled v j) ∷ asks 10 (among (2 * x) (clause v i) && among (2 * x + 1) (clause v j)) ∷ []
+
+abbrev pub result-questions : View → ℕ → List (List ℕ) → List Question
+result-questions v to rs = asks 11 (short-enough (v .longest) rs) ∷ asks 12 (roomy v to (length (kept rs))) ∷ []
+
 abbrev pub resolve-questions : Scale → State → ℕ → ℕ → ℕ → ℕ → List Question
 resolve-questions k s i j x to =
-    step-fits s ++ (asks 9 (filled (s .shelf) i && filled (s .shelf) j)
-    ∷ asks 10 (among (2 * x) (clause (s .shelf) i) && among (2 * x + 1) (clause (s .shelf) j))
-    ∷ asks 11 (short-enough (s .shelf .longest) (results-at k s i j x))
-    ∷ asks 12 (roomy (s .shelf) to (length (kept (results-at k s i j x))))
-    ∷ record { number = 13; reply = reach-reply k (resolve-news (has-empty (results-at k s i j x)) (cell-in k s i) (cell-in k s j) (s .bench .proved)) } ∷ [])
+    let rs = results-at k s i j x in
+    step-fits s ++ (source-questions (s .shelf) i j x ++ (result-questions (s .shelf) to rs
+    ++ (record { number = 13; reply = reach-reply k (resolve-news (has-empty rs) (cell-in k s i) (cell-in k s j) (s .bench .proved)) } ∷ [])))
 
 -- the case once an empty result, if there is one, has been taken in
 abbrev pub taken-in : Bool → Cell → Case → Case
@@ -132,9 +145,8 @@ resolve-does k s i j x to = outcome (first-no (resolve-questions k s i j x to)) 
 
 abbrev pub define-questions : State → ℕ → List ℕ → List Question
 define-questions s to ls =
-    let rs = defining (s .bench .current + 1) ls in
     step-fits s ++ (asks 10 (not (none ls) && (rises (known (s .bench .current) (s .shelf)) 0 ls && ltb (s .bench .current) (s .shelf .highest)))
-    ∷ asks 11 (short-enough (s .shelf .longest) rs) ∷ asks 12 (roomy (s .shelf) to (length (kept rs))) ∷ [])
+    ∷ result-questions (s .shelf) to (defining (s .bench .current + 1) ls))
 
 abbrev pub one-more : Case → Case
 one-more b = record { phase = b .phase; n = b .n; current = b .current + 1; total = b .total; proved = b .proved; impossible = b .impossible; shown = b .shown }

@@ -11,12 +11,12 @@ use lib.ListN.{length, getD, set, take, drop}
 use Rattle.std.specs.declared.result.Result.{Result}
 use Rattle.std.specs.declared.result.Result.the-variants.{Ok, Err}
 use Rattle.std.specs.Results.{isOk}
-use Rattle.std.proofs.shelf.Lists.{getD-set-same, set-set, set-getD, take-more, take-all, take-append-drop, drop-more, length-take-le, nil-from-length, getD-past}
+use Rattle.std.proofs.shelf.Lists.{getD-set-same, set-set, set-getD, take-more, take-all, take-append-drop, drop-more, drop-all, length-take-le, nil-from-length, getD-past}
 use Rattle.std.proofs.shelf.Tests.{ltb-true, lt-ltb, le-ltb, le-leb, ne-eqb, or-from, and-parts, and-from, and-left, and-right, cases-lt}
 use Rattle.shelf.specs.Literals.{Rising, put, stands, none}
 use Rattle.shelf.specs.View.{View, Sound, with-held, clause}
 use Rattle.shelf.specs.Room.{Writable, filled, vacant, roomy}
-use Rattle.shelf.specs.Answers.{added, after-add}
+use Rattle.shelf.specs.Answers.{added, after-add, after-adds}
 
 module _ (top : ℕ) where
   later : (b : ℕ) (xs : List ℕ) (c : ℕ) (ys : List ℕ) → Rising top b (xs ++ c ∷ ys) → (b < c / 2) × (c / 2 ≤ top)
@@ -121,3 +121,18 @@ filled-size v p n s e =
           let past : clause v p ≡ [] = getD-past (v .held) p [] l in
           ap (λ (k : ℕ). not (eqb k 0)) (e ∙ ap length past) ∙ sym (and-left (ltb p (v .places)) (not (none (clause v p))) (le-ltb p (v .places) h))
     ]
+
+-- one code more of a list that is added
+pub adds-more : (w : View) (p : ℕ) (cs : List ℕ) (k : ℕ) {x : View} → after-adds w p (drop k cs) ≡ x → k < length cs → after-adds (after-add w p (getD cs k 0)) p (drop (k + 1) cs) ≡ x
+unfolding after-adds
+adds-more w p cs k e h = ap (after-adds w p) (sym (drop-more cs k 0 h)) ∙ e
+
+pub adds-done : (w : View) (p : ℕ) (cs : List ℕ) (k : ℕ) {x : View} → after-adds w p (drop k cs) ≡ x → length cs ≤ k → w ≡ x
+unfolding after-adds
+adds-done w p cs k e h = ap (after-adds w p) (sym (drop-all k cs h)) ∙ e
+
+-- adding changes nothing but what is held
+pub adds-frame : (v : View) (p : ℕ) (cs : List ℕ) → after-adds v p cs ≡ with-held v (after-adds v p cs .held)
+unfolding after-adds
+adds-frame v p [] = refl
+adds-frame v p (c ∷ cs) = adds-frame (after-add v p c) p cs

@@ -10,9 +10,10 @@
 --   numbered      a result with its refusal told by number
 --   added, wiped  what adding a code, or wiping a place, answers
 --   after-add, after-wipe   what is held then; a refusal leaves all as it was
---   Did           what a call that may change a shelf did
+--   after-adds    what is held after a list of codes has been added to one place
+--   Did, Became   what a call that may change a shelf did, with and without an answer
 use mathlib.Core.Bool.{Bool, cond, _&&_}
-use mathlib.Core.List.{List, []}
+use mathlib.Core.List.{List, [], _∷_}
 use mathlib.Core.Path.{_≡_}
 use Prim.Native.Nat.{ℕ}
 use lib.Dec.{ltb, leb}
@@ -53,6 +54,11 @@ wiped v p = cond (ltb p (v .places)) (Ok tt) (Err 81)
 
 abbrev pub after-wipe : View → ℕ → View
 after-wipe v p = with-held v (set (v .held) p [])
+
+-- a list of codes added to one place, one after another; a refused one changes nothing
+unfoldable pub after-adds : View → ℕ → List ℕ → View
+after-adds v p [] = v
+after-adds v p (c ∷ cs) = after-adds (after-add v p c) p cs
 
 -- in order after, the answer, and the view after
 pub record Did {A : Type 0} (fine-after : Type 0) (r r-told : A) (v v-told : View) : Type 0 where

@@ -1,9 +1,9 @@
 // What is done with whole places, proved once over any shelf. A clause in
 // scratch memory is a slice of rising literal codes.
 ghost use mathlib.Core.Path.{_≡_};
-ghost use Prim.Native.Nat.{ℕ, _≤_};
-ghost use lib.ListN.{length, take, set};
-ghost use Rattle.shelf.specs.Answers.{Became};
+ghost use Prim.Native.Nat.{_≤_};
+ghost use lib.ListN.{take, set};
+ghost use Rattle.shelf.specs.Answers.{Became, after-adds};
 ghost use Rattle.shelf.specs.Room.{filled, vacant, roomy, Writable};
 ghost use Rattle.shelf.specs.View.{View, clause, with-held, emptied};
 use crate::literal::Literal;
@@ -66,9 +66,11 @@ pub fn read_codes<S: Shelf>(shelf: &S, place: usize, out: &mut [u32; 255]) -> us
     n
 }
 
-// Writes the codes to a free place.
+// Adds the codes to a place, one after another; a code that is refused is passed over.
+// A free place then holds a clause that fits.
 pub fn write_codes<S: Shelf>(shelf: &mut S, place: usize, codes: &[u32])
-    ensures { λ _. ⌜ (fine (now (shelf .entry)) → Writable (view (now (shelf .entry))) place (now (codes .entry)) → Became (fine (now (shelf .exit))) (view (now (shelf .exit))) (with-held (view (now (shelf .entry))) (set (view (now (shelf .entry)) .held) place (now (codes .entry))))) ⌝ }
+    ensures did { λ _. ⌜ (fine (now (shelf .entry)) → Became (fine (now (shelf .exit))) (view (now (shelf .exit))) (after-adds (view (now (shelf .entry))) place (now (codes .entry)))) ⌝ }
+    ensures whole { λ _. ⌜ (fine (now (shelf .entry)) → Writable (view (now (shelf .entry))) place (now (codes .entry)) → view (now (shelf .exit)) ≡ with-held (view (now (shelf .entry))) (set (view (now (shelf .entry)) .held) place (now (codes .entry)))) ⌝ }
 {
     for c in codes {
         let _ = shelf.add(place, Literal { code: *c });

@@ -2,7 +2,7 @@
 
 // How many literals it has, its amount, the total with it, and the proved cost.
 #[derive(Clone, Copy)]
-pub struct Accepted<A> {
+pub(crate) struct Accepted<A> {
     pub count: usize,
     pub amount: A,
     pub total: A,

@@ -8,12 +8,13 @@ ghost use Rattle.cost.specs.Figures.{zeros};
 ghost use Rattle.cost.specs.Kinds.{Kind};
 ghost use Rattle.ledger.specs.Meaning.{cell-of, cells-of};
 ghost use Rattle.ledger.specs.declared.cell.Cell.the-variants.{Soft as SoftCell};
+ghost use Rattle.results.specs.Placing.{Laid};
 ghost use Rattle.rules.specs.Case.{idle-case};
 ghost use Rattle.rules.specs.Filling.{open-questions, open-does, clause-questions, hard-does, soft-questions, soft-does, seal-questions, seal-does};
 ghost use Rattle.rules.specs.Questions.{first-no};
 ghost use Rattle.shelf.specs.Room.{Writable};
 ghost use Rattle.shelf.specs.View.{with-held};
-ghost use Rattle.bench.specs.Asked.{verdict-told, Copied, Put, Accepts};
+ghost use Rattle.bench.specs.Asked.{verdict-told, Copied, Accepts};
 ghost use Rattle.bench.specs.Meaning.{case-of, state-at, granted-told, Done, If-refused, If-granted};
 use crate::case::Bench;
 use crate::case::Phase;
@@ -43,7 +44,7 @@ fn put_clause<K: CostKind, S: Shelf>(
     codes: &[u32],
     cell: Cell<K::Amount>,
 )
-    ensures { λ _. ⌜ (fine (now (shelf .entry)) → Writable (view (now (shelf .entry))) place (now (codes .entry)) → Put (fine (now (shelf .exit))) (view (now (shelf .exit))) (with-held (view (now (shelf .entry))) (set (view (now (shelf .entry)) .held) place (now (codes .entry)))) (cells-of kind (now (ledger .exit))) (set (cells-of kind (now (ledger .entry))) place (cell-of (kind .figures) cell))) ⌝ }
+    ensures { λ _. ⌜ (fine (now (shelf .entry)) → Writable (view (now (shelf .entry))) place (now (codes .entry)) → Laid (fine (now (shelf .exit))) (view (now (shelf .exit))) (with-held (view (now (shelf .entry))) (set (view (now (shelf .entry)) .held) place (now (codes .entry)))) (cells-of kind (now (ledger .exit))) (set (cells-of kind (now (ledger .entry))) place (cell-of (kind .figures) cell))) ⌝ }
 {
     write_codes(shelf, place, codes);
     write_cell::<K>(ledger, place, cell);

@@ -4,7 +4,7 @@ use ledger::weighed::WeighedClone;
 
 // Whether a result is empty, whose compensations there are, and the amounts.
 #[derive(Clone, Copy)]
-pub struct Resolution<A> {
+pub(crate) struct Resolution<A> {
     pub empty: bool,
     pub with_i: bool,
     pub with_j: bool,

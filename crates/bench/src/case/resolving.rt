@@ -1,18 +1,17 @@
 // The resolve step: all questions first, without change; then the results are
 // placed, and what is left of the parents is written back.
-ghost use mathlib.Core.Bool.{not, _&&_, _||_};
+ghost use mathlib.Core.Bool.{_&&_, _||_};
 ghost use mathlib.Core.Path.{_≡_};
-ghost use Prim.Native.Nat.{_*_};
 ghost use lib.ListN.{set};
 ghost use Rattle.cost.specs.Kinds.{Kind};
 ghost use Rattle.ledger.specs.Meaning.{cell-of, cells-of};
-ghost use Rattle.results.specs.Placing.{Placeable, after-placing};
+ghost use Rattle.results.specs.Placing.{Laid, Placeable};
 ghost use Rattle.results.specs.Resolving.{resolvents-at};
 ghost use Rattle.rules.specs.Cells.{is-hard, is-nothing as nothing-left};
 ghost use Rattle.rules.specs.Questions.{first-no};
-ghost use Rattle.rules.specs.Results.{has-empty, kept, laid, alike};
-ghost use Rattle.rules.specs.Steps.{step-fits, cell-in, results-at, freed-if, resolve-questions, resolve-does};
-ghost use Rattle.bench.specs.Asked.{verdict-told, source-questions, result-questions, Empties, Resolves, Put};
+ghost use Rattle.rules.specs.Results.{has-empty};
+ghost use Rattle.rules.specs.Steps.{step-fits, source-questions, result-questions, cell-in, results-at, freed-if, resolve-questions, resolve-does};
+ghost use Rattle.bench.specs.Asked.{verdict-told, results-of, Carried, Empties, Resolves};
 ghost use Rattle.bench.specs.Meaning.{state-at, granted-told, Done, If-refused};
 use crate::case::Bench;
 use crate::case::Phase;
@@ -87,7 +86,7 @@ fn settle<K: CostKind, S: Shelf>(
     place: usize,
     left: Cell<K::Amount>,
 )
-    ensures { λ _. ⌜ (fine (now (shelf .entry)) → Put (fine (now (shelf .exit))) (view (now (shelf .exit))) (freed-if (nothing-left (kind .scale .tiers) (cell-of (kind .figures) left)) (view (now (shelf .entry))) place) (cells-of kind (now (ledger .exit))) (set (cells-of kind (now (ledger .entry))) place (cell-of (kind .figures) left))) ⌝ }
+    ensures { λ _. ⌜ (fine (now (shelf .entry)) → Laid (fine (now (shelf .exit))) (view (now (shelf .exit))) (freed-if (nothing-left (kind .scale .tiers) (cell-of (kind .figures) left)) (view (now (shelf .entry))) place) (cells-of kind (now (ledger .exit))) (set (cells-of kind (now (ledger .entry))) place (cell-of (kind .figures) left))) ⌝ }
 {
     write_cell::<K>(ledger, place, left);
     if is_nothing::<K>(left) {
@@ -105,7 +104,7 @@ fn carry_out<K: CostKind, S: Shelf>(
     to: usize,
     r: Resolution<K::Amount>,
 )
-    ensures { λ _. ⌜ (fine (now (shelf .entry)) → Placeable (view (now (shelf .entry))) to (resolvents-at (view (now (shelf .entry))) i j variable (r .«with_i») (r .«with_j»)) → Put (fine (now (shelf .exit))) (view (now (shelf .exit))) (freed-if (nothing-left (kind .scale .tiers) (cell-of (kind .figures) (r .weighed .«left_j»))) (freed-if (nothing-left (kind .scale .tiers) (cell-of (kind .figures) (r .weighed .«left_i»))) (after-placing (view (now (shelf .entry))) to (resolvents-at (view (now (shelf .entry))) i j variable (r .«with_i») (r .«with_j»))) i) j) (cells-of kind (now (ledger .exit))) (set (set (laid to (alike (cell-of (kind .figures) (r .weighed .common)) (kept (resolvents-at (view (now (shelf .entry))) i j variable (r .«with_i») (r .«with_j»)))) (cells-of kind (now (ledger .entry)))) i (cell-of (kind .figures) (r .weighed .«left_i»))) j (cell-of (kind .figures) (r .weighed .«left_j»)))) ⌝ }
+    ensures { λ _. ⌜ (fine (now (shelf .entry)) → Placeable (view (now (shelf .entry))) to (results-of (view (now (shelf .entry))) i j variable r) → Carried kind (fine (now (shelf .exit))) (view (now (shelf .entry))) (view (now (shelf .exit))) (now (ledger .entry)) (now (ledger .exit)) i j variable to r) ⌝ }
 {
     place_resolve(
         shelf,

@@ -21,11 +21,17 @@ impl Fault {
             Fault::HardClauseUnmet => 8,
             Fault::SourceUnfit => 9,
             Fault::LiteralMissing => 10,
+            Fault::VariableUnfit => 10,
+            Fault::ClausesDiffer => 10,
+            Fault::DefinitionUnfit => 10,
+            Fault::AlreadyHard => 10,
             Fault::ResultTooLong => 11,
             Fault::NoRoom => 12,
             Fault::OutOfReach(_) => 13,
             Fault::NoPlanShown => 14,
+            Fault::NotDearer => 15,
             Fault::CostsDiffer => 16,
+            Fault::NotMarked => 17,
         }
     }
 

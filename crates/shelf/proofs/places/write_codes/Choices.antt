@@ -1,4 +1,6 @@
+use lib.ListN.{drop}
 use mathlib.Core.Path.{_≡_}
+use Rattle.shelf.specs.Answers.{after-adds}
 use Rattle.shelf.specs.Room.{Writable}
 use Rattle.shelf.proofs.Writing.{part}
 use Rattle.shelf.proofs.places.write_codes.Given as given
@@ -6,5 +8,8 @@ use Rattle.shelf.proofs.places.write_codes.Given as given
 abbrev pub Inv-loop-c : given.InvT-loop-c
 Inv-loop-c g l =
     let s = g .S·Shelf in
-    s .fine (l .entry .shelf) → Writable (s .view (l .entry .shelf)) (l .place) (l .codes)
-    → s .fine (l .shelf) × (s .view (l .shelf) ≡ part (s .view (l .entry .shelf)) (l .place) (l .codes) (l .c-index))
+    let v = s .view (l .entry .shelf) in
+    s .fine (l .entry .shelf)
+    → (s .fine (l .shelf))
+      × (after-adds (s .view (l .shelf)) (l .place) (drop (l .c-index) (l .codes)) ≡ after-adds v (l .place) (l .codes))
+      × (Writable v (l .place) (l .codes) → s .view (l .shelf) ≡ part v (l .place) (l .codes) (l .c-index))

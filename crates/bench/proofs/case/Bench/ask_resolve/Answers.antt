@@ -6,7 +6,7 @@ use Rattle.std.proofs.shelf.Results.{err-from-errBy}
 use Rattle.rules.specs.Cells.{is-hard}
 use Rattle.rules.specs.Questions.{first-no}
 use Rattle.rules.specs.Results.{has-empty}
-use Rattle.bench.specs.Asked.{result-questions}
+use Rattle.rules.specs.Steps.{result-questions}
 use Rattle.bench.specs.Meaning.{state-of}
 use Rattle.bench.proofs.Resolved.{stop-first, stop-sources, stop-results, stop-amounts, all-passed, same-results, same-dues}
 use Rattle.bench.proofs.case.Bench.ask_resolve.Needs as need

@@ -1,7 +1,7 @@
 use mathlib.Core.Path.{_≡_, sym, _∙_, ap}
 use Rattle.std.proofs.shelf.Results.{err-from-errBy}
 use Rattle.bench.specs.Meaning.{state-of}
-use Rattle.bench.proofs.Shows.{long-enough, show-unmet, show-out, show-pass}
+use Rattle.bench.proofs.Shows.{show-unmet, show-out, show-pass}
 use Rattle.bench.proofs.case.Bench.ask_show.Needs as need
 
 pub returns-then-not-meets-hard : need.returns-then-not-meets-hard
@@ -14,8 +14,7 @@ returns-then-not-meets-hard g c =
           let a₁ = sym (c .ledger-is-long-enough .ensures h) ∙ c .if-not-ledger-is-long-enough .left in
           let a₂ = sym (c .is-sealed .ensures) ∙ c .if-not-is-sealed .left in
           let a₇ = sym (c .is-plan .ensures) ∙ c .if-not-is-plan .left in
-          let l = long-enough k (s .shelf .places) (c .args .ledger .now) a₁ in
-          show-unmet (k .scale) s x a₁ a₂ a₇ (sym (c .meets-hard .ensures h l) ∙ c .if-not-meets-hard .taken);
+            show-unmet (k .scale) s x a₁ a₂ a₇ (sym (c .meets-hard .ensures h) ∙ c .if-not-meets-hard .taken);
       bill = λ h. tt;
     }
 
@@ -30,8 +29,7 @@ returns-in-Break-owing g c =
           let a₁ = sym (c .ledger-is-long-enough .ensures h) ∙ c .if-not-ledger-is-long-enough .left in
           let a₂ = sym (c .is-sealed .ensures) ∙ c .if-not-is-sealed .left in
           let a₇ = sym (c .is-plan .ensures) ∙ c .if-not-is-plan .left in
-          let l = long-enough k (s .shelf .places) (c .args .ledger .now) a₁ in
-          show-out (k .scale) s x a₁ a₂ a₇ (sym (c .meets-hard .ensures h l) ∙ c .if-not-meets-hard .left) (c .if-self .left) _ (c .in-Break-owing .ensures tt h l);
+            show-out (k .scale) s x a₁ a₂ a₇ (sym (c .meets-hard .ensures h) ∙ c .if-not-meets-hard .left) (c .if-self .left) _ (c .in-Break-owing .ensures tt h);
       bill = λ h. tt;
     })
 
@@ -45,13 +43,11 @@ returns g c =
           let a₁ = sym (c .ledger-is-long-enough .ensures h) ∙ c .if-not-ledger-is-long-enough .left in
           let a₂ = sym (c .is-sealed .ensures) ∙ c .if-not-is-sealed .left in
           let a₇ = sym (c .is-plan .ensures) ∙ c .if-not-is-plan .left in
-          let l = long-enough k (s .shelf .places) (c .args .ledger .now) a₁ in
-          show-pass (k .scale) s x a₁ a₂ a₇ (sym (c .meets-hard .ensures h l) ∙ c .if-not-meets-hard .left) (c .if-self .left) _ (c .in-Continue-owing .ensures tt h l) .0;
+            show-pass (k .scale) s x a₁ a₂ a₇ (sym (c .meets-hard .ensures h) ∙ c .if-not-meets-hard .left) (c .if-self .left) _ (c .in-Continue-owing .ensures tt h) .0;
       bill = λ h.
           let a₁ = sym (c .ledger-is-long-enough .ensures h) ∙ c .if-not-ledger-is-long-enough .left in
           let a₂ = sym (c .is-sealed .ensures) ∙ c .if-not-is-sealed .left in
           let a₇ = sym (c .is-plan .ensures) ∙ c .if-not-is-plan .left in
-          let l = long-enough k (s .shelf .places) (c .args .ledger .now) a₁ in
-          let q = show-pass (k .scale) s x a₁ a₂ a₇ (sym (c .meets-hard .ensures h l) ∙ c .if-not-meets-hard .left) (c .if-self .left) _ (c .in-Continue-owing .ensures tt h l) in
+            let q = show-pass (k .scale) s x a₁ a₂ a₇ (sym (c .meets-hard .ensures h) ∙ c .if-not-meets-hard .left) (c .if-self .left) _ (c .in-Continue-owing .ensures tt h) in
           record { cost-is = q .1; count-is = q .2 };
     }

@@ -11,7 +11,7 @@ use Rattle.ledger.specs.Meaning.{cells-of}
 use Rattle.rules.specs.Cells.{hard}
 use Rattle.rules.specs.Filling.{clause-questions, marked, placed, with-bench, hard-done, hard-does}
 use Rattle.rules.specs.Questions.{passes, grants}
-use Rattle.bench.specs.Asked.{Put}
+use Rattle.results.specs.Placing.{Laid}
 use Rattle.bench.specs.Meaning.{state-of}
 use Rattle.bench.proofs.Clausing.{none-given, some-given, clause-passed, may-write}
 use Rattle.bench.proofs.Doing.{refusing, granting, same-state}
@@ -60,7 +60,7 @@ returns-else-clause-eq0 g c =
           let q = clause-passed s p cs passes passed in
           let F : List ℕ → Type 0 = λ xs.
           Writable v p xs
-          → Put (g .S·Shelf .fine (c .put-clause .last .shelf)) (g .S·Shelf .view (c .put-clause .last .shelf)) (with-held v (set (v .held) p xs)) (cells-of k (c .put-clause .last .ledger)) (set l p hard) in
+          → Laid (g .S·Shelf .fine (c .put-clause .last .shelf)) (g .S·Shelf .view (c .put-clause .last .shelf)) (with-held v (set (v .held) p xs)) (cells-of k (c .put-clause .last .ledger)) (set l p hard) in
           let put = subst F (c .in-Continue-count .ensures tt .copied h) (c .put-clause .ensures h) (may-write s p cs (q .0) (q .1) n) in
           granting (put .fine) s (clause-questions s p cs) (grants (hard-done s p cs)) passed refl
           (same-state refl (put .view) (put .cells) ∙ ap (λ (b : Bool). cond b (with-bench s (marked (s .bench))) (placed s p cs hard)) (sym n));

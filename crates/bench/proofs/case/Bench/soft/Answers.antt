@@ -14,7 +14,7 @@ use Rattle.ledger.specs.Meaning.{cells-of}
 use Rattle.rules.specs.Cells.{soft, paid}
 use Rattle.rules.specs.Filling.{with-bench, with-sums, placed, soft-questions, soft-done, soft-does}
 use Rattle.rules.specs.Questions.{grants}
-use Rattle.bench.specs.Asked.{Put}
+use Rattle.results.specs.Placing.{Laid}
 use Rattle.bench.specs.Meaning.{state-of}
 use Rattle.bench.proofs.Clausing.{none-given, some-given, clause-passed, may-write}
 use Rattle.bench.proofs.Doing.{refusing, granting, same-state}
@@ -54,7 +54,7 @@ returns-then-clause-ne0 g c =
           let q = clause-passed s p cs _ passed in
           let F : List ℕ → Type 0 = λ ys.
           Writable v p ys
-          → Put (g .S·Shelf .fine (c .put-clause .last .shelf)) (g .S·Shelf .view (c .put-clause .last .shelf)) (with-held v (set (v .held) p ys)) (cells-of k (c .put-clause .last .ledger)) (set l p (soft (k .figures (a .amount)))) in
+          → Laid (g .S·Shelf .fine (c .put-clause .last .shelf)) (g .S·Shelf .view (c .put-clause .last .shelf)) (with-held v (set (v .held) p ys)) (cells-of k (c .put-clause .last .ledger)) (set l p (soft (k .figures (a .amount)))) in
           let put = subst F (took .copied) (c .put-clause .ensures h) (may-write s p cs (q .0) (q .1) n) in
           granting (put .fine) s (soft-questions (k .scale) s p xs cs) (grants (soft-done s p xs cs)) passed refl
           (same-state (soft-sums (s .bench) xs (k .figures (a .total)) (k .figures (a .proved)) cs (took .total-is) (took .proved-is)) (put .view) (put .cells ∙ ap (λ (y : List ℤ). set l p (soft y)) (took .amount-is))
