@@ -1,13 +1,22 @@
 -- The laws of exact figures: at each length they are an ordered commutative
--- group. They hold for any number of tiers and know nothing of reach.
+-- group. They hold for any number of tiers and know nothing of reach. A second
+-- law says what the tests of reach mean.
+--
+--   flipped         an order seen from the other side
+--   Tiered r xs     xs has r figures
+--   Ordered-group   the laws at r tiers; Exact-figures: at each number of tiers
+--   Reach-tells     no tier is beyond exactly where all are within; and the tier
+--                   that is told is the first that is not near
 use mathlib.Core.List.{List}
 use mathlib.Core.Path.{_≡_}
-use Prim.Native.Nat.{ℕ}
-use lib.IntN.{ℤ}
-use lib.ListN.{length}
+use Prim.Native.Nat.{ℕ, _+_, _<_}
+use lib.IntN.{ℤ, pos}
+use lib.ListN.{length, getD}
 use Rattle.std.specs.declared.cmp.Ordering.{Ordering}
 use Rattle.std.specs.declared.cmp.Ordering.the-variants.{Less, Equal, Greater}
+use Rattle.std.specs.declared.option.Option.the-variants.{Some, None}
 use Rattle.cost.specs.Figures.{zeros, plus, minus, order}
+use Rattle.cost.specs.Reach.{Scale, Near, beyond, Within}
 
 -- the order seen from the other side
 abbrev pub flipped : Ordering → Ordering
@@ -38,3 +47,12 @@ pub record Ordered-group (r : ℕ) : Type 0 where
 
 abbrev pub Exact-figures : Type 0
 Exact-figures = (r : ℕ) → Ordered-group r
+
+pub record Tells (k : Scale) (xs : List ℤ) : Type 0 where
+  pub none-far : Within k xs → beyond k xs ≡ None
+  pub within : length xs ≡ k .tiers → beyond k xs ≡ None → Within k xs
+  -- the tier 1 + i is told where the figure at i is the first that is not near
+  pub first-far : (t : ℕ) → beyond k xs ≡ Some t → (i : ℕ) × (t ≡ 1 + i) × (i < length xs) × (Near (k .reach) (getD xs i (pos 0)) → ⊥) × ((j : ℕ) → j < i → Near (k .reach) (getD xs j (pos 0)))
+
+abbrev pub Reach-tells : Type 0
+Reach-tells = (k : Scale) (xs : List ℤ) → Tells k xs

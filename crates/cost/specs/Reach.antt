@@ -1,7 +1,7 @@
 -- Reach: how far a figure may go.
 --
 --   Scale         the tiers of a cost kind, and how far each figure may reach
---   near R x      whether the figure x lies from −R to R
+--   near R x      whether the figure x lies from −R to R; Near says that it does
 --   beyond k xs   the first tier of xs that is out of reach, counted from 1
 --   in-reach      whether no tier is out of reach
 --   reached k xs  xs itself, or a refusal that names its first tier out of reach
@@ -54,5 +54,8 @@ reached k xs = unless (beyond k xs) xs
 abbrev pub made-of : Scale → List ℤ → Result (List ℤ) ℕ
 made-of k xs = cond (eqb (length xs) (k .tiers)) (reached k xs) (Err 0)
 
+abbrev pub Near : ℕ → ℤ → Type 0
+Near R x = (negℤ (pos R) ≤ℤ x) × (x ≤ℤ pos R)
+
 abbrev pub Within : Scale → List ℤ → Type 0
-Within k xs = (length xs ≡ k .tiers) × All (λ x. (negℤ (pos (k .reach)) ≤ℤ x) × (x ≤ℤ pos (k .reach))) xs
+Within k xs = (length xs ≡ k .tiers) × All (Near (k .reach)) xs

@@ -1,16 +1,16 @@
-// The piles in use: a bench of any cost kind on a row shelf. Here the shelf's
-// invariant is no premise any more, since the shelf is made here, or it is the
-// one premise that a maker yielded; and what lies in memory is told word by word.
+// The piles in use: a bench of any cost kind on a row shelf. `open_rows` makes its
+// shelf, so no premise is left in its contract; and what lies in memory is told word
+// by word.
 ghost use mathlib.Core.Path.{_≡_};
 ghost use lib.ListN.{length, replicate};
-ghost use Rattle.bench.specs.Meaning.{granted-told, state-of, Done, If-granted};
+ghost use Rattle.bench.specs.Meaning.{granted-told, state-of, Done, If-granted, If-refused};
 ghost use Rattle.cost.specs.Figures.{zeros};
 ghost use Rattle.cost.specs.Kinds.{Kind};
 ghost use Rattle.ledger.specs.Meaning.{cells-of};
 ghost use Rattle.ledger.specs.declared.cell.Cell.the-variants.{Soft as SoftCell};
 ghost use Rattle.piles.specs.Memory.{Blank};
 ghost use Rattle.rows.specs.Made.{made-view};
-ghost use Rattle.rows.specs.Shelves.{in-order, meaning, spare, words-of};
+ghost use Rattle.rows.specs.Shelves.{in-order, meaning, words-of};
 ghost use Rattle.rules.specs.Filling.{open-does};
 ghost use Rattle.rules.specs.Machine.{new as new-state};
 use bench::case::Bench;
@@ -31,6 +31,7 @@ pub fn reopen_rows<K: CostKind>(
 ) -> Result<(), Fault>
     ensures did { λ r. ⌜ (in-order (now (shelf .entry)) → Done (in-order (now (shelf .exit))) (granted-told r) (state-of kind (now (bench .exit)) (meaning (now (shelf .exit))) (now (ledger .exit))) (open-does (kind .scale) (state-of kind (now (bench .entry)) (meaning (now (shelf .entry))) (now (ledger .entry))) n)) ⌝ }
     ensures words { λ r. ⌜ (in-order (now (shelf .entry)) → Blank r (words-of (now (shelf .exit))) (now (shelf .exit) .places) (now (shelf .exit) .longest)) ⌝ }
+    ensures refused { λ r. ⌜ If-refused r ((now (bench .exit) ≡ now (bench .entry)) × (now (shelf .exit) ≡ now (shelf .entry)) × (now (ledger .exit) ≡ now (ledger .entry))) ⌝ }
     ensures cells { λ r. ⌜ If-granted r ((a : K·Amount) → kind .figures a ≡ zeros (kind .scale .tiers) → now (ledger .exit) ≡ replicate (length (now (ledger .entry))) (SoftCell (kind .row a))) ⌝ }
 {
     bench.open(shelf, ledger, n)

@@ -15,5 +15,6 @@ returns g c =
       words = λ h.
           let d = c .open .ensures .did h in
           blank (k .scale) s t (c .args .n) (c .open .result) (w .places) (w .highest) (w .longest) (words-of w) (d .fine) refl d;
+      refused = c .open .ensures .refused;
       cells = c .open .ensures .cleared;
     }

@@ -9,9 +9,9 @@ use denote.Struct.Props.{props}
 use Rattle.std.proofs.shelf.Signed.{ints}
 use Rattle.std.proofs.shelf.Tests.{cases-bool}
 use Rattle.cost.specs.declared.amounts.Minutes.{Minutes}
-use Rattle.cost.specs.Reach.{near, Within}
+use Rattle.cost.specs.Reach.{Near, near, Within}
 use Rattle.cost.specs.Models.{minutes-kind}
-use Rattle.cost.proofs.Reaching.{Near, near-true, near-parts}
+use Rattle.cost.proofs.Reaching.{near-true, near-parts}
 use Rattle.cost.proofs.amounts.by_minutes.MinutesCostKind.the-impl.Needs as need
 
 abbrev In : ℤ → Type 0
