@@ -3,12 +3,13 @@
 // by word.
 ghost use mathlib.Core.Path.{_≡_};
 ghost use lib.ListN.{length, replicate};
-ghost use Rattle.bench.specs.Meaning.{granted-told, state-of, Done, If-granted, If-refused};
+ghost use Rattle.bench.specs.Meaning.{cheapest-told, granted-told, state-of, Done, If-granted, If-refused};
 ghost use Rattle.cost.specs.Figures.{zeros};
 ghost use Rattle.cost.specs.Kinds.{Kind};
 ghost use Rattle.ledger.specs.Meaning.{cells-of};
 ghost use Rattle.ledger.specs.declared.cell.Cell.the-variants.{Soft as SoftCell};
 ghost use Rattle.piles.specs.Memory.{Blank};
+ghost use Rattle.piles.specs.Sequence.{one-clause};
 ghost use Rattle.rows.specs.Made.{made-view};
 ghost use Rattle.rows.specs.Shelves.{in-order, meaning, words-of};
 ghost use Rattle.rules.specs.Filling.{open-does};
@@ -19,6 +20,7 @@ use cost::kind::CostKind;
 use ledger::cell::Cell;
 use rows::RowShelf;
 use rows::RowShelfShelf;
+use shelf::literal::Literal;
 
 // Opens a case on a row shelf that any earlier cases have used. Once it is granted
 // every word of every place is 0 and every cell, spare ones too, is the row of
@@ -51,4 +53,24 @@ pub fn open_rows<K: CostKind>(
     let mut shelf = RowShelf::new(words, highest, longest);
     let mut bench = Bench::<K>::new();
     reopen_rows::<K>(&mut bench, &mut shelf, ledger, n)
+}
+
+// A whole case on a new row shelf, with no premise left: one variable, the soft clause
+// {1} with these figures at place 0, a plan that meets it, and the claim.
+pub fn one_clause_on_rows<K: CostKind>(
+    words: &mut [u32],
+    highest: usize,
+    longest: usize,
+    ledger: &mut [Cell<K::Row>],
+    figures: &[i64],
+) -> Result<K::Amount, Fault>
+    ensures { λ r. ⌜ cheapest-told (kind .figures) r ≡ one-clause (kind .scale) (new-state (kind .scale) (made-view (length (now (words .entry))) highest longest) (cells-of kind (now (ledger .entry)))) (now (figures .entry)) ⌝ }
+{
+    let mut shelf = RowShelf::new(words, highest, longest);
+    let mut bench = Bench::<K>::new();
+    bench.open(&mut shelf, ledger, 1)?;
+    bench.soft(&mut shelf, ledger, 0, figures, &[Literal::of(1)])?;
+    bench.seal(&shelf, ledger)?;
+    bench.show(&shelf, ledger, &[1])?;
+    bench.cheapest(&shelf, ledger)
 }
