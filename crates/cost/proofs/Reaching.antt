@@ -72,16 +72,17 @@ unfolding Far
 far-from R s [] t e = absurd (let z : _≡_ {A = ℕ} 0 1 = cc in omega arith)
 far-from R s (x ∷ xs) t e =
     elim (cases-bool (near R x)) [
-      inl h ↦
-        let f = far-from R (s + 1) xs t (ap (λ (b : Bool). cond b (beyond-from R (s + 1) xs) (Some s)) (sym h) ∙ e) in
-        let i : ℕ = f .0 in
-        let p : t ≡ (s + 1) + i = f .1 in
-        let l : i < length xs = f .2 in
-        (suc i, omega arith, omega arith, f .3, near-before R x xs i (near-parts R x h) (f .4))
-    | inr h ↦
-        let q : Some s ≡ Some t = ap (λ (b : Bool). cond b (beyond-from R (s + 1) xs) (Some s)) (sym h) ∙ e in
-        let p : s ≡ t = cc in
-        (0, omega arith, omega arith, λ n. let z : true ≡ false = sym (near-true R x n) ∙ h in let y : _≡_ {A = ℕ} 0 1 = cc in omega arith, λ j l. let z : ⊥ = omega arith in elim z [ ]) ]
+      | inl h ↦
+          let f = far-from R (s + 1) xs t (ap (λ (b : Bool). cond b (beyond-from R (s + 1) xs) (Some s)) (sym h) ∙ e) in
+          let i : ℕ = f .0 in
+          let p : t ≡ (s + 1) + i = f .1 in
+          let l : i < length xs = f .2 in
+          (suc i, omega arith, omega arith, f .3, near-before R x xs i (near-parts R x h) (f .4))
+      | inr h ↦
+          let q : Some s ≡ Some t = ap (λ (b : Bool). cond b (beyond-from R (s + 1) xs) (Some s)) (sym h) ∙ e in
+          let p : s ≡ t = cc in
+          (0, omega arith, omega arith, λ n. let z : true ≡ false = sym (near-true R x n) ∙ h in let y : _≡_ {A = ℕ} 0 1 = cc in omega arith, λ j l. let z : ⊥ = omega arith in elim z [ ])
+    ]
 
 pub reach-tells : Reach-tells
 unfolding Far

@@ -69,15 +69,17 @@ pub owed-end : (x : List ℕ) (held : List (List ℕ)) (ks : List Cell) (p : ℕ
 unfolding owed
 owed-end x held ks p h =
     elim (cases-lt p (length held)) [
-      inl l ↦ ap (owed x (drop p held)) (drop-all p ks (omega arith)) ∙ owed-bare x (drop p held)
-    | inr l ↦ ap (λ (hs : List (List ℕ)). owed x hs (drop p ks)) (drop-all p held l) ]
+      | inl l ↦ ap (owed x (drop p held)) (drop-all p ks (omega arith)) ∙ owed-bare x (drop p held)
+      | inr l ↦ ap (λ (hs : List (List ℕ)). owed x hs (drop p ks)) (drop-all p held l)
+    ]
 
 pub met-end : (x : List ℕ) (held : List (List ℕ)) (ks : List Cell) (p : ℕ) → min (length held) (length ks) ≤ p → hard-met x (drop p held) (drop p ks) ≡ true
 unfolding hard-met
 met-end x held ks p h =
     elim (cases-lt p (length held)) [
-      inl l ↦ ap (hard-met x (drop p held)) (drop-all p ks (omega arith)) ∙ met-bare x (drop p held)
-    | inr l ↦ ap (λ (hs : List (List ℕ)). hard-met x hs (drop p ks)) (drop-all p held l) ]
+      | inl l ↦ ap (hard-met x (drop p held)) (drop-all p ks (omega arith)) ∙ met-bare x (drop p held)
+      | inr l ↦ ap (λ (hs : List (List ℕ)). hard-met x hs (drop p ks)) (drop-all p held l)
+    ]
 
 -- one amount more, in reach
 pub billed-more : (k : Scale) (z a w : List ℤ) (os : List (List ℤ)) (n : ℕ) → Ok w ≡ reached k (plus z a) → billed k w os (n + 1) ≡ billed k z (a ∷ os) n

@@ -12,4 +12,4 @@ Inv-loop-t g l =
     let v = s .view (l .entry .shelf) in
     (s .fine (l .entry .shelf) → Became (s .fine (l .shelf)) (s .view (l .shelf)) (with-held v (s .view (l .shelf) .held)))
     × (s .fine (l .entry .shelf) → All-spread (v .highest) (listed (l .ps)) → Placeable v (l .to) (listed (l .ps))
-      → s .fine (l .shelf) × Laying v (s .view (l .shelf)) (l .m) (listed (l .ps)) (l .to) (l .entry .cells) (l .cells) (l .place) (l .t))
+    → s .fine (l .shelf) × Laying v (s .view (l .shelf)) (l .m) (listed (l .ps)) (l .to) (l .entry .cells) (l .cells) (l .place) (l .t))

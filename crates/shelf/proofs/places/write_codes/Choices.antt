@@ -11,5 +11,5 @@ Inv-loop-c g l =
     let v = s .view (l .entry .shelf) in
     s .fine (l .entry .shelf)
     → (s .fine (l .shelf))
-      × (after-adds (s .view (l .shelf)) (l .place) (drop (l .c-index) (l .codes)) ≡ after-adds v (l .place) (l .codes))
-      × (Writable v (l .place) (l .codes) → s .view (l .shelf) ≡ part v (l .place) (l .codes) (l .c-index))
+    × (after-adds (s .view (l .shelf)) (l .place) (drop (l .c-index) (l .codes)) ≡ after-adds v (l .place) (l .codes))
+    × (Writable v (l .place) (l .codes) → s .view (l .shelf) ≡ part v (l .place) (l .codes) (l .c-index))

@@ -14,7 +14,7 @@ returns-then-not-meets-hard g c =
           let a₁ = sym (c .ledger-is-long-enough .ensures h) ∙ c .if-not-ledger-is-long-enough .left in
           let a₂ = sym (c .is-sealed .ensures) ∙ c .if-not-is-sealed .left in
           let a₇ = sym (c .is-plan .ensures) ∙ c .if-not-is-plan .left in
-            show-unmet (k .scale) s x a₁ a₂ a₇ (sym (c .meets-hard .ensures h) ∙ c .if-not-meets-hard .taken);
+          show-unmet (k .scale) s x a₁ a₂ a₇ (sym (c .meets-hard .ensures h) ∙ c .if-not-meets-hard .taken);
       bill = λ h. tt;
     }
 
@@ -29,7 +29,7 @@ returns-in-Break-owing g c =
           let a₁ = sym (c .ledger-is-long-enough .ensures h) ∙ c .if-not-ledger-is-long-enough .left in
           let a₂ = sym (c .is-sealed .ensures) ∙ c .if-not-is-sealed .left in
           let a₇ = sym (c .is-plan .ensures) ∙ c .if-not-is-plan .left in
-            show-out (k .scale) s x a₁ a₂ a₇ (sym (c .meets-hard .ensures h) ∙ c .if-not-meets-hard .left) (c .if-self .left) _ (c .in-Break-owing .ensures tt h);
+          show-out (k .scale) s x a₁ a₂ a₇ (sym (c .meets-hard .ensures h) ∙ c .if-not-meets-hard .left) (c .if-self .left) _ (c .in-Break-owing .ensures tt h);
       bill = λ h. tt;
     })
 
@@ -43,11 +43,11 @@ returns g c =
           let a₁ = sym (c .ledger-is-long-enough .ensures h) ∙ c .if-not-ledger-is-long-enough .left in
           let a₂ = sym (c .is-sealed .ensures) ∙ c .if-not-is-sealed .left in
           let a₇ = sym (c .is-plan .ensures) ∙ c .if-not-is-plan .left in
-            show-pass (k .scale) s x a₁ a₂ a₇ (sym (c .meets-hard .ensures h) ∙ c .if-not-meets-hard .left) (c .if-self .left) _ (c .in-Continue-owing .ensures tt h) .0;
+          show-pass (k .scale) s x a₁ a₂ a₇ (sym (c .meets-hard .ensures h) ∙ c .if-not-meets-hard .left) (c .if-self .left) _ (c .in-Continue-owing .ensures tt h) .0;
       bill = λ h.
           let a₁ = sym (c .ledger-is-long-enough .ensures h) ∙ c .if-not-ledger-is-long-enough .left in
           let a₂ = sym (c .is-sealed .ensures) ∙ c .if-not-is-sealed .left in
           let a₇ = sym (c .is-plan .ensures) ∙ c .if-not-is-plan .left in
-            let q = show-pass (k .scale) s x a₁ a₂ a₇ (sym (c .meets-hard .ensures h) ∙ c .if-not-meets-hard .left) (c .if-self .left) _ (c .in-Continue-owing .ensures tt h) in
+          let q = show-pass (k .scale) s x a₁ a₂ a₇ (sym (c .meets-hard .ensures h) ∙ c .if-not-meets-hard .left) (c .if-self .left) _ (c .in-Continue-owing .ensures tt h) in
           record { cost-is = q .1; count-is = q .2 };
     }
