@@ -7,7 +7,8 @@ use native.Mathlib.Omega.{arith}
 use lib.ListN.{length, getD, drop}
 use Rattle.std.proofs.shelf.Lists.{getD-append-left, getD-append-right, getD-past, length-append}
 use Rattle.shelf.specs.Literals.{Rising}
-use Rattle.rules.specs.Clauses.{merge, turned, compensations}
+use Rattle.rules.specs.Clauses.{merge, compensations}
+use Rattle.results.specs.Turned.{turned}
 use Rattle.rules.specs.Results.{where-soft, results}
 use Rattle.results.specs.Spread.{All-spread}
 use Rattle.results.proofs.Shapes.{spread-first, merge-spread, compensations-spread}

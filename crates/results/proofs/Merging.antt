@@ -9,7 +9,8 @@ use lib.ListN.{length, getD, take, drop, set}
 use Rattle.std.proofs.shelf.Lists.{append-nil, append-assoc, take-more, take-more-set, take-rest, drop-more, drop-all, length-drop, nil-from-length}
 use Rattle.std.proofs.shelf.Tests.{lt-ltb, le-ltb, eq-eqb, ne-eqb}
 use Rattle.shelf.specs.Literals.{opposite}
-use Rattle.rules.specs.Clauses.{without, into, merge, turned}
+use Rattle.rules.specs.Clauses.{without, into, merge}
+use Rattle.results.specs.Turned.{turned}
 
 pub merge-less : (a b : ℕ) (as′ bs : List ℕ) → a < b → merge (a ∷ as′) (b ∷ bs) ≡ a ∷ merge as′ (b ∷ bs)
 unfolding merge into

@@ -1,3 +1,4 @@
+pub mod Turned
 pub mod Spread
 pub mod Parents
 pub mod Counting

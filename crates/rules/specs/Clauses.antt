@@ -4,7 +4,6 @@
 --                     up to V
 --   without c cs      cs but for the code c
 --   merge as bs       the union of two rising lists
---   turned bs         bs with its first literal turned into its opposite
 --   compensations c bs   for each literal of bs in turn: the clause c with the
 --                     opposite of that literal and with the later ones of bs
 --   vanishes cs       whether a literal stands in cs with its opposite
@@ -35,10 +34,6 @@ into a f (b ∷ bs) =
 unfoldable pub merge : List ℕ → List ℕ → List ℕ
 merge [] bs = bs
 merge (a ∷ as′) bs = into a (merge as′) bs
-
-unfoldable pub turned : List ℕ → List ℕ
-turned [] = []
-turned (b ∷ bs) = opposite b ∷ bs
 
 unfoldable pub compensations : List ℕ → List ℕ → List (List ℕ)
 compensations c [] = []

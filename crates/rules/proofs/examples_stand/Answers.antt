@@ -1,7 +1,7 @@
 use mathlib.Core.Path.{refl}
 use Rattle.shelf.specs.Literals.{among, put, stands}
 use Rattle.shelf.specs.Room.{roomy}
-use Rattle.rules.specs.Clauses.{rises, same-codes, without, into, merge, compensations, vanishes, turned}
+use Rattle.rules.specs.Clauses.{rises, same-codes, without, into, merge, compensations, vanishes}
 use Rattle.rules.specs.Plans.{meets, bits}
 use Rattle.rules.specs.Filling.{none-negative, open-does, hard-does, soft-does, seal-does}
 use Rattle.rules.specs.Showing.{hard-met, owed, partial-sums, summed, show-does}
@@ -12,7 +12,7 @@ use Rattle.rules.specs.Machine.{answers, after-all}
 use Rattle.rules.proofs.examples_stand.Needs as need
 
 pub returns : need.returns
-unfolding among put stands rises without into merge compensations vanishes turned meets bits roomy none-negative open-does hard-does soft-does seal-does hard-met owed partial-sums summed show-does kept short-enough has-empty laid same-codes implied split-does join-does resolve-does define-does harden-does cheapest-does impossible-does answers after-all
+unfolding among put stands rises without into merge compensations vanishes meets bits roomy none-negative open-does hard-does soft-does seal-does hard-met owed partial-sums summed show-does kept short-enough has-empty laid same-codes implied split-does join-does resolve-does define-does harden-does cheapest-does impossible-does answers after-all
 returns c = record {
   one-compensation-stands = (refl, refl, refl);
   whole-case-stands = (refl, refl, refl, refl);

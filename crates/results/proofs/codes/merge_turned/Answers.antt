@@ -2,7 +2,8 @@ use native.Mathlib.Omega.{arith}
 use mathlib.Core.Path.{_≡_, _∙_, ap}
 use lib.ListN.{length, set}
 use Rattle.shelf.specs.Literals.{opposite}
-use Rattle.rules.specs.Clauses.{merge, turned}
+use Rattle.rules.specs.Clauses.{merge}
+use Rattle.results.specs.Turned.{turned}
 use Rattle.results.proofs.Merging.{turned-first, turned-none}
 use Rattle.results.proofs.codes.merge_turned.Needs as need
 use Rattle.results.proofs.codes.merge_turned.Needs.{then-tail-gt0, else-tail-gt0}
