@@ -67,7 +67,7 @@ pub impl CostKind for Minutes as MinutesCostKind {
     fn read(row: MinutesRow) -> Minutes {
         match checked(row.minutes) {
             Ok(a) => a,
-            Err(_) => Minutes { minutes: 0 },
+            Err(_) => Self::nothing(),
         }
     }
 }

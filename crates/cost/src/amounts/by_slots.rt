@@ -75,10 +75,7 @@ pub impl CostKind for Slots as SlotsCostKind {
     fn read(row: SlotsRow) -> Slots {
         match checked(row.slots, row.minutes) {
             Ok(a) => a,
-            Err(_) => Slots {
-                slots: 0,
-                minutes: 0,
-            },
+            Err(_) => Self::nothing(),
         }
     }
 }
