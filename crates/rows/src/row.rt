@@ -13,7 +13,7 @@ use shelf::literal::Literal;
 use shelf::refusal::Refusal;
 
 // Whether the row has the literal.
-pub fn has(row: &[u32], literal: Literal) -> bool
+pub(crate) fn has(row: &[u32], literal: Literal) -> bool
     requires { ⌜ getD (now row) 0 0 < length (now row) ⌝ }
     ensures { λ r. ⌜ r ≡ among (literal .code) (codes-of (now (row .entry))) ⌝ }
 {
@@ -43,7 +43,7 @@ fn below(row: &[u32], variable: u32) -> usize
 }
 
 // Where among the row's codes, from 0, the literal may go in.
-pub fn gap(row: &[u32], literal: Literal) -> Result<usize, Refusal>
+pub(crate) fn gap(row: &[u32], literal: Literal) -> Result<usize, Refusal>
     requires { ⌜ getD (now row) 0 0 < length (now row) ⌝ }
     ensures answer { λ r. ⌜ ((V : ℕ) → Rising V 0 (codes-of (now (row .entry))) → granted r ≡ fitted (length (now (row .entry)) - 1) (codes-of (now (row .entry))) (literal .code)) ⌝ }
     ensures gap { λ r. ⌜ made r (λ k. Gap (now (row .entry)) (literal .code) k) ⌝ }
@@ -61,7 +61,7 @@ pub fn gap(row: &[u32], literal: Literal) -> Result<usize, Refusal>
 }
 
 // Puts the literal in at the gap k, and moves the codes from there on up by one.
-pub fn slip(row: &mut [u32], k: usize, literal: Literal)
+pub(crate) fn slip(row: &mut [u32], k: usize, literal: Literal)
     requires gap { ⌜ Gap (now row) (literal .code) k ⌝ }
     requires short { ⌜ length (now row) ≤ 256 ⌝ }
     ensures count { λ _. ⌜ getD (now (row .exit)) 0 0 ≡ getD (now (row .entry)) 0 0 + 1 ⌝ }
