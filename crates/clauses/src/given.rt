@@ -3,7 +3,7 @@
 ghost use Rattle.std.specs.Prelude.{◌≡◌, ℕ, min, length, take};
 ghost use Rattle.clauses.specs.Codes.{codes as codes_of};
 ghost use Rattle.rules.specs.Case.{known};
-ghost use Rattle.rules.specs.Clauses.{rises as rises-to};
+ghost use Rattle.rules.specs.Clauses.{rises as rises_to};
 
 use shelf::literal::Literal;
 use shelf::store::Shelf;
@@ -27,7 +27,7 @@ pub fn copy_codes(clause: &[Literal], out: &mut [u32; 255]) -> usize
 
 // The highest variable that a literal may have: at most n, and at most the shelf's.
 pub fn known_variables<S: Shelf>(shelf: &S, n: u16) -> usize
-    ensures { fine shelf.now → result ≡ known n (view shelf.now) }
+    ensures { S.fine shelf.now → result ≡ known n (S.view shelf.now) }
 {
     let highest = shelf.highest_variable();
     if (n as usize) < highest {
@@ -39,7 +39,7 @@ pub fn known_variables<S: Shelf>(shelf: &S, n: u16) -> usize
 
 // Whether the variables rise strictly, each from 1 to the highest.
 pub fn rises(codes: &[u32], highest: usize) -> bool
-    ensures { result ≡ rises-to highest 0 codes.now }
+    ensures { result ≡ rises_to highest 0 codes.now }
 {
     let mut last: usize = 0;
     for c in codes {
@@ -57,7 +57,7 @@ pub fn rises(codes: &[u32], highest: usize) -> bool
 
 // The same of a clause whose codes were not copied.
 pub fn literals_rise(clause: &[Literal], highest: usize) -> bool
-    ensures { result ≡ rises-to highest 0 (codes_of clause.now) }
+    ensures { result ≡ rises_to highest 0 (codes_of clause.now) }
 {
     let mut before: usize = 0;
     for l in clause {

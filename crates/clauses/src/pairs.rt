@@ -7,7 +7,7 @@ use shelf::store::Shelf;
 
 // Whether the places hold equal clauses.
 pub fn same_clause<S: Shelf>(shelf: &S, i: usize, j: usize) -> bool
-    ensures { fine shelf.now → result ≡ same_codes (clause (view shelf.now) i) (clause (view shelf.now) j) }
+    ensures { S.fine shelf.now → result ≡ same_codes (clause (S.view shelf.now) i) (clause (S.view shelf.now) j) }
 {
     let n = shelf.size(i);
     if n != shelf.size(j) {

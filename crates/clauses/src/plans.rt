@@ -1,6 +1,6 @@
 // Plans as strips of bytes, the value of variable 1 first.
 ghost use Rattle.std.specs.Prelude.{◌≡◌, ℕ};
-ghost use Rattle.rules.specs.Plans.{value, makes_true, meets, is_whole_plan as is-plan-of};
+ghost use Rattle.rules.specs.Plans.{value, makes_true, meets, is_whole_plan as is_plan_of};
 ghost use Rattle.shelf.specs.View.{clause};
 
 use shelf::literal::Literal;
@@ -8,7 +8,7 @@ use shelf::store::Shelf;
 
 // Whether the strip has exactly n bytes, each 0 or 1.
 pub fn is_plan(strip: &[u8], n: usize) -> bool
-    ensures { result ≡ is-plan-of n strip.now }
+    ensures { result ≡ is_plan_of n strip.now }
 {
     if strip.len() != n {
         return false;
@@ -47,7 +47,7 @@ fn makes_literal_true(strip: &[u8], literal: Literal) -> bool
 
 // Whether the plan makes some literal at the place true.
 pub fn meets_place<S: Shelf>(shelf: &S, place: usize, strip: &[u8]) -> bool
-    ensures { fine shelf.now → result ≡ meets strip.now (clause (view shelf.now) place) }
+    ensures { S.fine shelf.now → result ≡ meets strip.now (clause (S.view shelf.now) place) }
 {
     let n = shelf.size(place);
     for k in 0..n {

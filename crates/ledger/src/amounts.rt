@@ -11,7 +11,7 @@ use std::cmp::Ordering;
 
 // Whether an amount is nothing.
 pub(crate) fn is_zero<K: CostKind>(amount: K::Amount) -> bool
-    ensures { result ≡ is_eq (order (kind.figures amount) (zeros kind.scale.tiers)) }
+    ensures { result ≡ is_eq (order (K.kind.figures amount) (zeros K.kind.scale.tiers)) }
 {
     match K::compare(amount, K::nothing()) {
         Ordering::Equal => true,
@@ -34,7 +34,7 @@ fn no_negative(figures: &[i64]) -> bool
 // The amount of the figures, and the total with it, where there are as many figures
 // as tiers, each from 0 to the reach, not all 0, and the total stays in reach.
 pub fn take_amount<K: CostKind>(figures: &[i64], total: K::Amount) -> Option<(K::Amount, K::Amount)>
-    ensures { taken_told kind.figures result ≡ taken_in kind.scale (kind.figures total) figures.now }
+    ensures { taken_told K.kind.figures result ≡ taken_in K.kind.scale (K.kind.figures total) figures.now }
 {
     match K::make(figures) {
         Err(_) => None,

@@ -17,7 +17,7 @@ use shelf::store::Shelf;
 
 // Whether a place is free or the plan meets its clause.
 fn free_or_met<S: Shelf>(shelf: &S, place: usize, strip: &[u8]) -> bool
-    ensures { fine shelf.now → result ≡ vacant_or_met strip.now (clause (view shelf.now) place) }
+    ensures { S.fine shelf.now → result ≡ vacant_or_met strip.now (clause (S.view shelf.now) place) }
 {
     if shelf.size(place) == 0 {
         return true;
@@ -32,7 +32,7 @@ fn met_if_hard<K: CostKind, S: Shelf>(
     place: usize,
     strip: &[u8],
 ) -> bool
-    ensures { fine shelf.now → result ≡ met_at strip.now (clause (view shelf.now) place) (cell_at kind.scale.tiers (cells_of kind ledger.now) place) }
+    ensures { S.fine shelf.now → result ≡ met_at strip.now (clause (S.view shelf.now) place) (cell_at K.kind.scale.tiers (cells_of K.kind ledger.now) place) }
 {
     match read_cell::<K>(ledger, place) {
         Cell::Hard => free_or_met(shelf, place, strip),
@@ -47,7 +47,7 @@ fn amount_owed<K: CostKind, S: Shelf>(
     place: usize,
     strip: &[u8],
 ) -> Option<K::Amount>
-    ensures { fine shelf.now → amount_told kind.figures result ≡ owing strip.now (clause (view shelf.now) place) (cell_at kind.scale.tiers (cells_of kind ledger.now) place) }
+    ensures { S.fine shelf.now → amount_told K.kind.figures result ≡ owing strip.now (clause (S.view shelf.now) place) (cell_at K.kind.scale.tiers (cells_of K.kind ledger.now) place) }
 {
     match read_cell::<K>(ledger, place) {
         Cell::Hard => None,
@@ -64,7 +64,7 @@ fn amount_owed<K: CostKind, S: Shelf>(
 // How many places have a cell.
 fn covered<S: Shelf>(shelf: &S, cells: usize) -> usize
     ensures low { result ≤ 65535 }
-    ensures is { fine shelf.now → result ≡ min (view shelf.now).places cells }
+    ensures is { S.fine shelf.now → result ≡ min (S.view shelf.now).places cells }
 {
     let count = shelf.place_count();
     if count < cells { count } else { cells }
@@ -72,7 +72,7 @@ fn covered<S: Shelf>(shelf: &S, cells: usize) -> usize
 
 // Whether the plan meets every hard clause on the shelf, as far as there are cells.
 pub fn meets_hard<K: CostKind, S: Shelf>(shelf: &S, ledger: &[Cell<K::Row>], strip: &[u8]) -> bool
-    ensures { fine shelf.now → result ≡ hard_met strip.now (view shelf.now).held (cells_of kind ledger.now) }
+    ensures { S.fine shelf.now → result ≡ hard_met strip.now (S.view shelf.now).held (cells_of K.kind ledger.now) }
 {
     let count = covered(shelf, ledger.len());
     for p in 0..count {
@@ -91,7 +91,7 @@ pub fn bill<K: CostKind, S: Shelf>(
     strip: &[u8],
     proved: K::Amount,
 ) -> Result<(K::Amount, usize), Tier>
-    ensures { fine shelf.now → bill_told kind.figures result ≡ billed kind.scale (kind.figures proved) (owed strip.now (view shelf.now).held (cells_of kind ledger.now)) 0 }
+    ensures { S.fine shelf.now → bill_told K.kind.figures result ≡ billed K.kind.scale (K.kind.figures proved) (owed strip.now (S.view shelf.now).held (cells_of K.kind ledger.now)) 0 }
 {
     let mut cost = proved;
     let mut unmet: usize = 0;

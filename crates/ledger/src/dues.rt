@@ -2,7 +2,7 @@
 // it was told.
 ghost use Rattle.std.specs.Prelude.{◌≡◌};
 ghost use Rattle.cost.specs.Kinds.{Kind, meant};
-ghost use Rattle.rules.specs.Cells.{joined as Joined-of, less as less-of, paid as paid-of, paid_news};
+ghost use Rattle.rules.specs.Cells.{joined as joined_of, less as less_of, paid as paid_of, paid_news};
 ghost use Rattle.rules.specs.Questions.{reach_reply};
 ghost use Rattle.rules.specs.Steps.{remainders, resolve_news, sum_news};
 ghost use Rattle.ledger.specs.Dues.{told_by, dues, cell_told, dues_told};
@@ -16,7 +16,7 @@ use cost::tier::Tier;
 
 // The cell of two equal clauses: hard if either is, else with the sum of both.
 pub fn joined<K: CostKind>(a: Cell<K::Amount>, b: Cell<K::Amount>) -> Result<Cell<K::Amount>, Tier>
-    ensures { cell_told kind.figures result ≡ told_by (reach_reply kind.scale (sum_news (cell_of kind.figures a) (cell_of kind.figures b))) (Joined-of (cell_of kind.figures a) (cell_of kind.figures b)) }
+    ensures { cell_told K.kind.figures result ≡ told_by (reach_reply K.kind.scale (sum_news (cell_of K.kind.figures a) (cell_of K.kind.figures b))) (joined_of (cell_of K.kind.figures a) (cell_of K.kind.figures b)) }
 {
     match a {
         Cell::Hard => Ok(Cell::Hard),
@@ -32,7 +32,7 @@ pub fn joined<K: CostKind>(a: Cell<K::Amount>, b: Cell<K::Amount>) -> Result<Cel
 
 // What is left of a parent once m is taken from it; a hard one stays.
 fn less<K: CostKind>(a: Cell<K::Amount>, m: Cell<K::Amount>) -> Result<Cell<K::Amount>, Tier>
-    ensures { cell_told kind.figures result ≡ told_by (reach_reply kind.scale (remainders (cell_of kind.figures a) (cell_of kind.figures m))) (less-of (cell_of kind.figures a) (cell_of kind.figures m)) }
+    ensures { cell_told K.kind.figures result ≡ told_by (reach_reply K.kind.scale (remainders (cell_of K.kind.figures a) (cell_of K.kind.figures m))) (less_of (cell_of K.kind.figures a) (cell_of K.kind.figures m)) }
 {
     match a {
         Cell::Hard => Ok(Cell::Hard),
@@ -52,7 +52,7 @@ pub fn paid<K: CostKind>(
     empty: bool,
     m: Cell<K::Amount>,
 ) -> Result<K::Amount, Tier>
-    ensures { meant kind.figures result ≡ told_by (reach_reply kind.scale (paid_news empty (cell_of kind.figures m) (kind.figures proved))) (paid-of empty (cell_of kind.figures m) (kind.figures proved)) }
+    ensures { meant K.kind.figures result ≡ told_by (reach_reply K.kind.scale (paid_news empty (cell_of K.kind.figures m) (K.kind.figures proved))) (paid_of empty (cell_of K.kind.figures m) (K.kind.figures proved)) }
 {
     if !empty {
         return Ok(proved);
@@ -71,7 +71,7 @@ pub fn weigh<K: CostKind>(
     b: Cell<K::Amount>,
     proved: K::Amount,
 ) -> Result<Weighed<K::Amount>, Tier>
-    ensures { dues_told kind.figures result ≡ told_by (reach_reply kind.scale (resolve_news empty (cell_of kind.figures a) (cell_of kind.figures b) (kind.figures proved))) (dues empty (cell_of kind.figures a) (cell_of kind.figures b) (kind.figures proved)) }
+    ensures { dues_told K.kind.figures result ≡ told_by (reach_reply K.kind.scale (resolve_news empty (cell_of K.kind.figures a) (cell_of K.kind.figures b) (K.kind.figures proved))) (dues empty (cell_of K.kind.figures a) (cell_of K.kind.figures b) (K.kind.figures proved)) }
 {
     let common = smaller::<K>(a, b);
     let left_i = less::<K>(a, common)?;

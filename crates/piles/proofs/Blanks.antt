@@ -5,11 +5,11 @@ use Rattle.std.proofs.lemmas.List.{length-replicate, take_all}
 use Rattle.shelf.specs.View.{View, emptied}
 use Rattle.cost.specs.Reach.{Scale}
 use Rattle.masks.proofs.Making.{fresh_masks}
-use Rattle.masks.proofs.Writings.{one_writing as masks-writing}
+use Rattle.masks.proofs.Writings.{one_writing as masks_writing}
 use Rattle.masks.specs.Masks as masks
 use Rattle.masks.specs.Masks.{Masks, masks_view}
 use Rattle.rows.proofs.Making.{fresh-rows}
-use Rattle.rows.proofs.Writings.{one_writing as rows-writing}
+use Rattle.rows.proofs.Writings.{one_writing as rows_writing}
 use Rattle.rows.specs.Rows as rows
 use Rattle.rows.specs.Rows.{Rows, rows_view}
 use Rattle.rules.specs.Case.{State}
@@ -40,7 +40,7 @@ zero_rows P V L ws r e =
     let u = rows.used P L in
     let all : take (rows.used P L) (replicate (rows.used P L) 0) ≡ replicate (rows.used P L) 0 = take_all u (replicate u 0) (simp length-replicate (omega arith)) in
     let f = fresh-rows P V L (replicate u 0) r.places_few r.highest_low r.highest_high r.longest_low r.longest_high (simp length-replicate (omega arith)) all in
-    rows-writing P V L ws (replicate u 0) r f.0 (ap (λ (h : List (List ℕ)). record { places = P; highest = V; longest = L; held = h; remainder = [] }) (e ∙ sym f.1)) ∙ all
+    rows_writing P V L ws (replicate u 0) r f.0 (ap (λ (h : List (List ℕ)). record { places = P; highest = V; longest = L; held = h; remainder = [] }) (e ∙ sym f.1)) ∙ all
 
 pub blank_rows : {F : Type 0} (k : Scale) (s t : State) (n : ℕ) (r : Result (Unit {0}) Fault) (P V L : ℕ) (ws : List ℕ) → Rows P V L ws → t.shelf ≡ rows_view P V L ws
     → Done F (granted_told r) t (open_does k s n) → Blank r ws (rows.used P L)
@@ -53,7 +53,7 @@ zero_masks P ws m e =
     let u = masks.used P in
     let all : take (masks.used P) (replicate (masks.used P) 0) ≡ replicate (masks.used P) 0 = take_all u (replicate u 0) (simp length-replicate (omega arith)) in
     let f = fresh_masks P (replicate u 0) m.places_few (simp length-replicate (omega arith)) all in
-    masks-writing P ws (replicate u 0) m f.0 (ap (λ (h : List (List ℕ)). record { places = P; highest = 64; longest = 64; held = h; remainder = [] }) (e ∙ sym f.1)) ∙ all
+    masks_writing P ws (replicate u 0) m f.0 (ap (λ (h : List (List ℕ)). record { places = P; highest = 64; longest = 64; held = h; remainder = [] }) (e ∙ sym f.1)) ∙ all
 
 pub blank_masks : {F : Type 0} (k : Scale) (s t : State) (n : ℕ) (r : Result (Unit {0}) Fault) (P : ℕ) (ws : List ℕ) → Masks P ws → t.shelf ≡ masks_view P ws
     → Done F (granted_told r) t (open_does k s n) → Blank r ws (masks.used P)

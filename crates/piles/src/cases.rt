@@ -3,9 +3,9 @@
 ghost use Rattle.std.specs.Prelude.{◌≡◌, length};
 ghost use Rattle.bench.specs.Meaning.{cheapest_told};
 ghost use Rattle.cost.specs.Kinds.{Kind};
-ghost use Rattle.masks.specs.Made.{made_view as made-masks};
+ghost use Rattle.masks.specs.Made.{made_view as made_masks};
 ghost use Rattle.piles.specs.Sequence.{one_clause_on};
-ghost use Rattle.rows.specs.Made.{made_view as made-rows};
+ghost use Rattle.rows.specs.Made.{made_view as made_rows};
 ghost use Rattle.shelf.specs.View.{emptied};
 ghost use Rattle.signatures.specs.Layers.{layered};
 
@@ -25,7 +25,7 @@ pub fn one_clause<K: CostKind, S: Shelf>(
     ledger: &mut [Cell<K::Row>],
     figures: &[i64],
 ) -> Result<K::Amount, Fault>
-    ensures { fine shelf.old → cheapest_told kind.figures result ≡ one_clause_on kind (view shelf.old) ledger.old figures.now }
+    ensures { S.fine shelf.old → cheapest_told K.kind.figures result ≡ one_clause_on K.kind (S.view shelf.old) ledger.old figures.now }
 {
     let mut bench = Bench::<K>::new();
     bench.open(shelf, ledger, 1)?;
@@ -43,7 +43,7 @@ pub fn one_clause_on_rows<K: CostKind>(
     ledger: &mut [Cell<K::Row>],
     figures: &[i64],
 ) -> Result<K::Amount, Fault>
-    ensures { cheapest_told kind.figures result ≡ one_clause_on kind (made-rows (length words.old) highest longest) ledger.old figures.now }
+    ensures { cheapest_told K.kind.figures result ≡ one_clause_on K.kind (made_rows (length words.old) highest longest) ledger.old figures.now }
 {
     let mut shelf = RowShelf::new(words, highest, longest);
     one_clause::<K, _>(&mut shelf, ledger, figures)
@@ -55,7 +55,7 @@ pub fn one_clause_on_masks<K: CostKind>(
     ledger: &mut [Cell<K::Row>],
     figures: &[i64],
 ) -> Result<K::Amount, Fault>
-    ensures { cheapest_told kind.figures result ≡ one_clause_on kind (made-masks (length words.old)) ledger.old figures.now }
+    ensures { cheapest_told K.kind.figures result ≡ one_clause_on K.kind (made_masks (length words.old)) ledger.old figures.now }
 {
     let mut shelf = MaskShelf::new(words);
     one_clause::<K, _>(&mut shelf, ledger, figures)
@@ -69,7 +69,7 @@ pub fn one_clause_on_signed_rows<K: CostKind>(
     ledger: &mut [Cell<K::Row>],
     figures: &[i64],
 ) -> Result<K::Amount, Fault>
-    ensures { cheapest_told kind.figures result ≡ one_clause_on kind (emptied (layered (made-rows (length words.old) highest longest))) ledger.old figures.now }
+    ensures { cheapest_told K.kind.figures result ≡ one_clause_on K.kind (emptied (layered (made_rows (length words.old) highest longest))) ledger.old figures.now }
 {
     let mut shelf = SignatureLayer::new(RowShelf::new(words, highest, longest));
     one_clause::<K, _>(&mut shelf, ledger, figures)
@@ -81,7 +81,7 @@ pub fn one_clause_on_signed_masks<K: CostKind>(
     ledger: &mut [Cell<K::Row>],
     figures: &[i64],
 ) -> Result<K::Amount, Fault>
-    ensures { cheapest_told kind.figures result ≡ one_clause_on kind (emptied (layered (made-masks (length words.old)))) ledger.old figures.now }
+    ensures { cheapest_told K.kind.figures result ≡ one_clause_on K.kind (emptied (layered (made_masks (length words.old)))) ledger.old figures.now }
 {
     let mut shelf = SignatureLayer::new(MaskShelf::new(words));
     one_clause::<K, _>(&mut shelf, ledger, figures)

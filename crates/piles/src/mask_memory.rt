@@ -24,10 +24,10 @@ pub fn reopen_masks<K: CostKind>(
     ledger: &mut [Cell<K::Row>],
     n: u16,
 ) -> Result<(), Fault>
-    ensures did { in_order shelf.old → Done (in_order shelf.new) (granted_told result) (state_of kind bench.new (meaning shelf.new) ledger.new) (open_does kind.scale (state_of kind bench.old (meaning shelf.old) ledger.old) n) }
+    ensures did { in_order shelf.old → Done (in_order shelf.new) (granted_told result) (state_of K.kind bench.new (meaning shelf.new) ledger.new) (open_does K.kind.scale (state_of K.kind bench.old (meaning shelf.old) ledger.old) n) }
     ensures words { in_order shelf.old → Blank result (words_of shelf.new) (used shelf.new.places) }
     ensures refused { IfRefused result ((bench.new ≡ bench.old) × (shelf.new ≡ shelf.old) × (ledger.new ≡ ledger.old)) }
-    ensures cells { IfGranted result ((a : K.Amount) → kind.figures a ≡ zeros kind.scale.tiers → ledger.new ≡ replicate (length ledger.old) (SoftCell (kind.row a))) }
+    ensures cells { IfGranted result ((a : K.Amount) → K.kind.figures a ≡ zeros K.kind.scale.tiers → ledger.new ≡ replicate (length ledger.old) (SoftCell (K.kind.row a))) }
 {
     bench.open(shelf, ledger, n)
 }

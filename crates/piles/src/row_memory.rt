@@ -11,7 +11,7 @@ ghost use Rattle.rows.specs.Made.{made_view};
 ghost use Rattle.rows.specs.Rows.{used};
 ghost use Rattle.rows.specs.Shelves.{in_order, meaning, words_of};
 ghost use Rattle.rules.specs.Filling.{open_does};
-ghost use Rattle.rules.specs.Machine.{new as new-state};
+ghost use Rattle.rules.specs.Machine.{new as new_state};
 
 use bench::case::Bench;
 use cost::kind::CostKind;
@@ -27,10 +27,10 @@ pub fn reopen_rows<K: CostKind>(
     ledger: &mut [Cell<K::Row>],
     n: u16,
 ) -> Result<(), Fault>
-    ensures did { in_order shelf.old → Done (in_order shelf.new) (granted_told result) (state_of kind bench.new (meaning shelf.new) ledger.new) (open_does kind.scale (state_of kind bench.old (meaning shelf.old) ledger.old) n) }
+    ensures did { in_order shelf.old → Done (in_order shelf.new) (granted_told result) (state_of K.kind bench.new (meaning shelf.new) ledger.new) (open_does K.kind.scale (state_of K.kind bench.old (meaning shelf.old) ledger.old) n) }
     ensures words { in_order shelf.old → Blank result (words_of shelf.new) (used shelf.new.places shelf.new.longest) }
     ensures refused { IfRefused result ((bench.new ≡ bench.old) × (shelf.new ≡ shelf.old) × (ledger.new ≡ ledger.old)) }
-    ensures cells { IfGranted result ((a : K.Amount) → kind.figures a ≡ zeros kind.scale.tiers → ledger.new ≡ replicate (length ledger.old) (SoftCell (kind.row a))) }
+    ensures cells { IfGranted result ((a : K.Amount) → K.kind.figures a ≡ zeros K.kind.scale.tiers → ledger.new ≡ replicate (length ledger.old) (SoftCell (K.kind.row a))) }
 {
     bench.open(shelf, ledger, n)
 }
@@ -43,8 +43,8 @@ pub fn open_rows<K: CostKind>(
     ledger: &mut [Cell<K::Row>],
     n: u16,
 ) -> Result<(), Fault>
-    ensures answer { granted_told result ≡ (open_does kind.scale (new-state kind.scale (made_view (length words.old) highest longest) (cells_of kind ledger.old)) n).answer }
-    ensures ledger { cells_of kind ledger.new ≡ (open_does kind.scale (new-state kind.scale (made_view (length words.old) highest longest) (cells_of kind ledger.old)) n).after.ledger }
+    ensures answer { granted_told result ≡ (open_does K.kind.scale (new_state K.kind.scale (made_view (length words.old) highest longest) (cells_of K.kind ledger.old)) n).answer }
+    ensures ledger { cells_of K.kind ledger.new ≡ (open_does K.kind.scale (new_state K.kind.scale (made_view (length words.old) highest longest) (cells_of K.kind ledger.old)) n).after.ledger }
 {
     let mut shelf = RowShelf::new(words, highest, longest);
     let mut bench = Bench::<K>::new();

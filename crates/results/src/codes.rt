@@ -1,16 +1,16 @@
 // Clauses in scratch memory: slices of literal codes that rise. What is made of
 // them goes to the front of a slice `out`, and how many codes it has is returned.
 ghost use Rattle.std.specs.Prelude.{◌≡◌, ℕ, ◌+◌, ◌≤◌, ◌++◌, length, take};
-ghost use Rattle.rules.specs.Clauses.{merge as union, vanishes, without as left-without};
+ghost use Rattle.rules.specs.Clauses.{merge as union, vanishes, without as left_without};
 ghost use Rattle.results.specs.Turned.{turned};
-ghost use Rattle.shelf.specs.Literals.{opposite as opposite-of, put as put_in};
+ghost use Rattle.shelf.specs.Literals.{opposite as opposite_of, put as put_in};
 ghost use Rattle.results.specs.Spread.{Spread};
 
 use shelf::literal::Literal;
 
 // The code of the opposite literal.
 pub(crate) fn opposite(code: u32) -> u32
-    ensures { result ≡ opposite-of code }
+    ensures { result ≡ opposite_of code }
 {
     Literal { code }.opposite().code
 }
@@ -19,7 +19,7 @@ pub(crate) fn opposite(code: u32) -> u32
 pub(crate) fn without(codes: &[u32], code: u32, out: &mut [u32]) -> usize
     requires { length codes.now ≤ length out.old }
     ensures low { result ≤ length codes.now }
-    ensures is { take result out.new ≡ left-without code codes.now }
+    ensures is { take result out.new ≡ left_without code codes.now }
 {
     let mut n: usize = 0;
     for c in codes {

@@ -1,5 +1,5 @@
 // The defining of a variable: its results placed.
-ghost use Rattle.clauses.specs.Codes.{codes as literal-codes};
+ghost use Rattle.clauses.specs.Codes.{codes as literal_codes};
 ghost use Rattle.rules.specs.Results.{alike, defining, kept, laid};
 ghost use Rattle.shelf.specs.Answers.{Became};
 ghost use Rattle.shelf.specs.View.{with_held};
@@ -24,8 +24,8 @@ pub fn place_define<S: Shelf, C: Copy>(
     to: usize,
     m: C,
 )
-    ensures did { fine shelf.old → Definable (view shelf.old) variable (literal-codes literals.now) → Placeable (view shelf.old) to (defining variable (literal-codes literals.now)) → Laid (fine shelf.new) (view shelf.new) (after_placing (view shelf.old) to (defining variable (literal-codes literals.now))) cells.new (laid to (alike m (kept (defining variable (literal-codes literals.now)))) cells.old) }
-    ensures framed { fine shelf.old → Became (fine shelf.new) (view shelf.new) (with_held (view shelf.old) (view shelf.new).held) }
+    ensures did { S.fine shelf.old → Definable (S.view shelf.old) variable (literal_codes literals.now) → Placeable (S.view shelf.old) to (defining variable (literal_codes literals.now)) → Laid (S.fine shelf.new) (S.view shelf.new) (after_placing (S.view shelf.old) to (defining variable (literal_codes literals.now))) cells.new (laid to (alike m (kept (defining variable (literal_codes literals.now)))) cells.old) }
+    ensures framed { S.fine shelf.old → Became (S.fine shelf.new) (S.view shelf.new) (with_held (S.view shelf.old) (S.view shelf.new).held) }
 {
     let mut codes = [0u32; 255];
     let count = copy_codes(literals, &mut codes);

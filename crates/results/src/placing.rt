@@ -31,9 +31,9 @@ fn place_one<S: Shelf, C: Copy>(
     place: usize,
     m: C,
 ) -> usize
-    ensures next { fine shelf.old → Spread (view shelf.old).highest 2 codes.now → Placeable (view shelf.old) place (codes.now ∷ []) → result ≡ place + length (kept (codes.now ∷ [])) }
-    ensures did { fine shelf.old → Spread (view shelf.old).highest 2 codes.now → Placeable (view shelf.old) place (codes.now ∷ []) → Laid (fine shelf.new) (view shelf.new) (after_placing (view shelf.old) place (codes.now ∷ [])) cells.new (laid place (alike m (kept (codes.now ∷ []))) cells.old) }
-    ensures framed { fine shelf.old → Became (fine shelf.new) (view shelf.new) (with_held (view shelf.old) (view shelf.new).held) }
+    ensures next { S.fine shelf.old → Spread (S.view shelf.old).highest 2 codes.now → Placeable (S.view shelf.old) place (codes.now ∷ []) → result ≡ place + length (kept (codes.now ∷ [])) }
+    ensures did { S.fine shelf.old → Spread (S.view shelf.old).highest 2 codes.now → Placeable (S.view shelf.old) place (codes.now ∷ []) → Laid (S.fine shelf.new) (S.view shelf.new) (after_placing (S.view shelf.old) place (codes.now ∷ [])) cells.new (laid place (alike m (kept (codes.now ∷ []))) cells.old) }
+    ensures framed { S.fine shelf.old → Became (S.fine shelf.new) (S.view shelf.new) (with_held (S.view shelf.old) (S.view shelf.new).held) }
 {
     if codes.len() == 0 {
         return place;
@@ -57,8 +57,8 @@ pub(crate) fn place_all<S: Shelf, C: Copy, R: Listed>(
     to: usize,
     m: C,
 )
-    ensures did { fine shelf.old → AllSpread (view shelf.old).highest (listed rs.now) → Placeable (view shelf.old) to (listed rs.now) → Laid (fine shelf.new) (view shelf.new) (after_placing (view shelf.old) to (listed rs.now)) cells.new (laid to (alike m (kept (listed rs.now))) cells.old) }
-    ensures framed { fine shelf.old → Became (fine shelf.new) (view shelf.new) (with_held (view shelf.old) (view shelf.new).held) }
+    ensures did { S.fine shelf.old → AllSpread (S.view shelf.old).highest (R.listed rs.now) → Placeable (S.view shelf.old) to (R.listed rs.now) → Laid (S.fine shelf.new) (S.view shelf.new) (after_placing (S.view shelf.old) to (R.listed rs.now)) cells.new (laid to (alike m (kept (R.listed rs.now))) cells.old) }
+    ensures framed { S.fine shelf.old → Became (S.fine shelf.new) (S.view shelf.new) (with_held (S.view shelf.old) (S.view shelf.new).held) }
 {
     let mut out = [0u32; 510];
     let mut place = to;

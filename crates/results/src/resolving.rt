@@ -1,7 +1,7 @@
 // The resolving of two places of a shelf: its results counted, or placed. Both
 // read the clauses first, so that nothing that is placed alters a parent.
 ghost use Rattle.std.specs.Prelude.{◌≡◌, ◌≤◌};
-ghost use Rattle.rules.specs.Clauses.{without as left-without};
+ghost use Rattle.rules.specs.Clauses.{without as left_without};
 ghost use Rattle.rules.specs.Results.{alike, kept, laid};
 ghost use Rattle.shelf.specs.Answers.{Became};
 ghost use Rattle.shelf.specs.View.{clause, with_held};
@@ -22,7 +22,7 @@ use shelf::store::Shelf;
 
 // The clause at a place.
 fn read_place<S: Shelf>(shelf: &S, place: usize) -> Scratch
-    ensures { fine shelf.now → codes_of result ≡ clause (view shelf.now) place }
+    ensures { S.fine shelf.now → codes_of result ≡ clause (S.view shelf.now) place }
 {
     let mut codes = [0u32; 255];
     let count = read_codes(shelf, place, &mut codes);
@@ -31,7 +31,7 @@ fn read_place<S: Shelf>(shelf: &S, place: usize) -> Scratch
 
 // What is left of a clause without a literal.
 fn rest_of(parent: &Scratch, literal: Literal) -> Scratch
-    ensures { codes_of result ≡ left-without literal.code (codes_of parent.now) }
+    ensures { codes_of result ≡ left_without literal.code (codes_of parent.now) }
 {
     let mut codes = [0u32; 255];
     let count = without(parent.slice(), literal.code, &mut codes);
@@ -47,8 +47,8 @@ fn read_parents<S: Shelf>(
     with_i: bool,
     with_j: bool,
 ) -> Parents
-    ensures is { fine shelf.now → results_of result ≡ resolvents_at (view shelf.now) i j variable with_i with_j }
-    ensures spread { fine shelf.now → AllSpread (view shelf.now).highest (results_of result) }
+    ensures is { S.fine shelf.now → results_of result ≡ resolvents_at (S.view shelf.now) i j variable with_i with_j }
+    ensures spread { S.fine shelf.now → AllSpread (S.view shelf.now).highest (results_of result) }
 {
     let first = read_place(shelf, i);
     let second = read_place(shelf, j);
@@ -76,7 +76,7 @@ pub fn survey_resolve<S: Shelf>(
     with_j: bool,
 ) -> Tally
     ensures low { result.kept ≤ 511 }
-    ensures is { fine shelf.now → result ≡ tally_of (view shelf.now).longest (resolvents_at (view shelf.now) i j variable with_i with_j) }
+    ensures is { S.fine shelf.now → result ≡ tally_of (S.view shelf.now).longest (resolvents_at (S.view shelf.now) i j variable with_i with_j) }
 {
     let parents = read_parents(shelf, i, j, variable, with_i, with_j);
     survey(&parents, shelf.longest_clause())
@@ -96,8 +96,8 @@ pub fn place_resolve<S: Shelf, C: Copy>(
     to: usize,
     m: C,
 )
-    ensures did { fine shelf.old → Placeable (view shelf.old) to (resolvents_at (view shelf.old) i j variable with_i with_j) → Laid (fine shelf.new) (view shelf.new) (after_placing (view shelf.old) to (resolvents_at (view shelf.old) i j variable with_i with_j)) cells.new (laid to (alike m (kept (resolvents_at (view shelf.old) i j variable with_i with_j))) cells.old) }
-    ensures framed { fine shelf.old → Became (fine shelf.new) (view shelf.new) (with_held (view shelf.old) (view shelf.new).held) }
+    ensures did { S.fine shelf.old → Placeable (S.view shelf.old) to (resolvents_at (S.view shelf.old) i j variable with_i with_j) → Laid (S.fine shelf.new) (S.view shelf.new) (after_placing (S.view shelf.old) to (resolvents_at (S.view shelf.old) i j variable with_i with_j)) cells.new (laid to (alike m (kept (resolvents_at (S.view shelf.old) i j variable with_i with_j))) cells.old) }
+    ensures framed { S.fine shelf.old → Became (S.fine shelf.new) (S.view shelf.new) (with_held (S.view shelf.old) (S.view shelf.new).held) }
 {
     let parents = read_parents(shelf, i, j, variable, with_i, with_j);
     place_all(shelf, cells, &parents, to, m);

@@ -13,8 +13,8 @@ use shelf::store::Shelf;
 // Splits the clause at a place on a variable. Where it may not be split the shelf
 // is still in order after, and nothing but what is held may have changed.
 pub fn split_place<S: Shelf>(shelf: &mut S, place: usize, variable: u16, to: usize)
-    ensures did { fine shelf.old → Splittable (view shelf.old) place variable to → view shelf.new ≡ split_view (view shelf.old) place variable to }
-    ensures framed { fine shelf.old → Became (fine shelf.new) (view shelf.new) (with_held (view shelf.old) (view shelf.new).held) }
+    ensures did { S.fine shelf.old → Splittable (S.view shelf.old) place variable to → S.view shelf.new ≡ split_view (S.view shelf.old) place variable to }
+    ensures framed { S.fine shelf.old → Became (S.fine shelf.new) (S.view shelf.new) (with_held (S.view shelf.old) (S.view shelf.new).held) }
 {
     let mut codes = [0u32; 255];
     let count = read_codes(shelf, place, &mut codes);

@@ -47,7 +47,7 @@ fn noted(tally: Tally, codes: &[u32], longest: usize) -> Tally
 // Counts the results.
 pub(crate) fn survey<R: Listed>(rs: &R, longest: usize) -> Tally
     ensures low { result.kept ≤ 511 }
-    ensures is { (top : ℕ) → AllSpread top (listed rs.now) → result ≡ tally_of longest (listed rs.now) }
+    ensures is { (top : ℕ) → AllSpread top (R.listed rs.now) → result ≡ tally_of longest (R.listed rs.now) }
 {
     let mut tally = Tally {
         kept: 0,

@@ -38,7 +38,7 @@ empty_nil (c ∷ cs) h = cc
 
 pub part_none : {v : View} {p : ℕ} {cs : List ℕ} → Writable v p cs → v ≡ part v p cs 0
 part_none {v = v} {p = p} {cs = cs} w =
-    let e = empty_nil (clause v p) (and_parts (ltb p v.places) (none (clause v p)) w.is-vacant).1 in
+    let e = empty_nil (clause v p) (and_parts (ltb p v.places) (none (clause v p)) w.is_vacant).1 in
     ap (with_held v) (sym (set-get_or v.held p [])) ∙ ap (λ (l : List ℕ). with_held v (set v.held p l)) (sym e)
 
 pub part-more : {v : View} {p : ℕ} {cs : List ℕ} {k : ℕ} {w w' : View} → Sound v → Writable v p cs → k < length cs

@@ -1,6 +1,6 @@
 // A literal: a variable, or its opposite.
 ghost use Rattle.std.specs.Prelude.{◌≡◌, ◌+◌, ◌*◌};
-ghost use Rattle.shelf.specs.Literals.{variable as variable-of, opposite as opposite-of};
+ghost use Rattle.shelf.specs.Literals.{variable as variable_of, opposite as opposite_of};
 
 // The literal of the variable v, from 1 on, has the code 2 · v, and its opposite
 // 2 · v + 1. The codes 0 and 1 are of no variable: 0 stands for no literal.
@@ -29,13 +29,13 @@ impl Literal {
     }
 
     pub fn variable(self) -> u32
-        ensures { result ≡ variable-of self.code }
+        ensures { result ≡ variable_of self.code }
     {
         self.code / 2
     }
 
     pub fn opposite(self) -> Literal
-        ensures { result.code ≡ opposite-of self.code }
+        ensures { result.code ≡ opposite_of self.code }
     {
         if self.code % 2 == 0 {
             Literal {

@@ -10,7 +10,7 @@ use crate::store::Shelf;
 
 // Frees every place.
 pub fn wipe_all<S: Shelf>(shelf: &mut S)
-    ensures { fine shelf.old → Became (fine shelf.new) (view shelf.new) (emptied (view shelf.old)) }
+    ensures { S.fine shelf.old → Became (S.fine shelf.new) (S.view shelf.new) (emptied (S.view shelf.old)) }
 {
     let count = shelf.place_count();
     for p in 0..count {
@@ -20,14 +20,14 @@ pub fn wipe_all<S: Shelf>(shelf: &mut S)
 
 // Whether a place is there and holds a clause.
 pub fn is_filled<S: Shelf>(shelf: &S, place: usize) -> bool
-    ensures { fine shelf.now → result ≡ filled (view shelf.now) place }
+    ensures { S.fine shelf.now → result ≡ filled (S.view shelf.now) place }
 {
     shelf.size(place) != 0
 }
 
 // Whether a place is there and free.
 pub fn is_vacant<S: Shelf>(shelf: &S, place: usize) -> bool
-    ensures { fine shelf.now → result ≡ vacant (view shelf.now) place }
+    ensures { S.fine shelf.now → result ≡ vacant (S.view shelf.now) place }
 {
     if place >= shelf.place_count() {
         return false;
@@ -37,7 +37,7 @@ pub fn is_vacant<S: Shelf>(shelf: &S, place: usize) -> bool
 
 // Whether the n places from `to` on are there and free.
 pub fn has_room<S: Shelf>(shelf: &S, to: usize, n: usize) -> bool
-    ensures { fine shelf.now → result ≡ roomy (view shelf.now) to n }
+    ensures { S.fine shelf.now → result ≡ roomy (S.view shelf.now) to n }
 {
     let count = shelf.place_count();
     let mut place = to;
@@ -56,7 +56,7 @@ pub fn has_room<S: Shelf>(shelf: &S, to: usize, n: usize) -> bool
 // Copies the codes of a place to the front of `out`; how many they are.
 pub fn read_codes<S: Shelf>(shelf: &S, place: usize, out: &mut [u32; 255]) -> usize
     ensures low { result ≤ 255 }
-    ensures is { fine shelf.now → take result out.new ≡ clause (view shelf.now) place }
+    ensures is { S.fine shelf.now → take result out.new ≡ clause (S.view shelf.now) place }
 {
     let n = shelf.size(place);
     for k in 0..n {
@@ -68,8 +68,8 @@ pub fn read_codes<S: Shelf>(shelf: &S, place: usize, out: &mut [u32; 255]) -> us
 // Adds the codes to a place, one after another; a code that is refused is passed over.
 // A free place then holds a clause that fits.
 pub fn write_codes<S: Shelf>(shelf: &mut S, place: usize, codes: &[u32])
-    ensures did { fine shelf.old → Became (fine shelf.new) (view shelf.new) (after_adds (view shelf.old) place codes.now) }
-    ensures whole { fine shelf.old → Writable (view shelf.old) place codes.now → view shelf.new ≡ with_held (view shelf.old) (slice_set (view shelf.old).held place codes.now) }
+    ensures did { S.fine shelf.old → Became (S.fine shelf.new) (S.view shelf.new) (after_adds (S.view shelf.old) place codes.now) }
+    ensures whole { S.fine shelf.old → Writable (S.view shelf.old) place codes.now → S.view shelf.new ≡ with_held (S.view shelf.old) (slice_set (S.view shelf.old).held place codes.now) }
 {
     for c in codes {
         let _ = shelf.add(place, Literal { code: *c });

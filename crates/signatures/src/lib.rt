@@ -29,7 +29,7 @@ pub struct SignatureLayer<S> {
 
 // Frees the first 4,096 places: signatures with no bit set are then in order.
 fn free_first<S: Shelf>(shelf: &mut S)
-    ensures { fine shelf.old → Became (fine shelf.new × Signed (view shelf.new) blank) (layered (view shelf.new)) (emptied (layered (view shelf.old))) }
+    ensures { S.fine shelf.old → Became (S.fine shelf.new × Signed (S.view shelf.new) blank) (layered (S.view shelf.new)) (emptied (layered (S.view shelf.old))) }
 {
     let count = shelf.place_count().min(4096);
     for p in 0..count {

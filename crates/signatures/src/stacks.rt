@@ -24,7 +24,7 @@ pub fn place_count_on_rows(words: &mut [u32], highest: usize, longest: usize) ->
 
 // Adds one literal at place 0, and tells the size there.
 fn lone_literal<S: Shelf>(shelf: &mut S, literal: Literal) -> Result<usize, Refusal>
-    ensures { fine shelf.old → told result ≡ size_then (view shelf.old) literal.code }
+    ensures { S.fine shelf.old → told result ≡ size_then (S.view shelf.old) literal.code }
 {
     shelf.add(0, literal)?;
     Ok(shelf.size(0))

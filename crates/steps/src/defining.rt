@@ -29,7 +29,7 @@ pub fn ask_define<S: Shelf>(
     to: usize,
     literals: &[Literal],
 ) -> Result<u16, Fault>
-    ensures is { fine shelf.now → verdict_told result ≡ first_no (define_asks (view shelf.now) current to (codes_of literals.now)) }
+    ensures is { S.fine shelf.now → verdict_told result ≡ first_no (define_asks (S.view shelf.now) current to (codes_of literals.now)) }
     ensures next { IfOk result (λ d. d ≡ current + 1) }
 {
     if literals.len() == 0 {
@@ -58,7 +58,7 @@ pub fn define<K: CostKind, S: Shelf>(
     to: usize,
     literals: &[Literal],
 )
-    ensures { fine shelf.old → (n : ℕ) → variable ≡ n + 1 → passes ≡ first_no (define_asks (view shelf.old) n to (codes_of literals.now)) → Laid (fine shelf.new) (view shelf.new) (after_placing (view shelf.old) to (defining (n + 1) (codes_of literals.now))) (cells_of kind ledger.new) (laid to (alike hard (kept (defining (n + 1) (codes_of literals.now)))) (cells_of kind ledger.old)) }
+    ensures { S.fine shelf.old → (n : ℕ) → variable ≡ n + 1 → passes ≡ first_no (define_asks (S.view shelf.old) n to (codes_of literals.now)) → Laid (S.fine shelf.new) (S.view shelf.new) (after_placing (S.view shelf.old) to (defining (n + 1) (codes_of literals.now))) (cells_of K.kind ledger.new) (laid to (alike hard (kept (defining (n + 1) (codes_of literals.now)))) (cells_of K.kind ledger.old)) }
 {
     place_define(shelf, ledger, variable, literals, to, Cell::Hard);
 }

@@ -24,7 +24,7 @@ pub fn ask_harden<K: CostKind, S: Shelf>(
     shown: Option<K::Amount>,
     i: usize,
 ) -> Result<(), Fault>
-    ensures { fine shelf.now → verdict_told result ≡ first_no (harden_asks (view shelf.now) (cell_here kind ledger.now i) (kind.figures proved) (amount_told kind.figures shown) i) }
+    ensures { S.fine shelf.now → verdict_told result ≡ first_no (harden_asks (S.view shelf.now) (cell_here K.kind ledger.now i) (K.kind.figures proved) (amount_told K.kind.figures shown) i) }
 {
     if !is_filled(shelf, i) {
         return Err(Fault::SourceUnfit);

@@ -28,8 +28,8 @@ pub fn ask_join<K: CostKind, S: Shelf>(
     i: usize,
     j: usize,
 ) -> Result<Cell<K::Amount>, Fault>
-    ensures is { fine shelf.now → verdict_told result ≡ first_no (join_asks kind.scale (view shelf.now) (cell_here kind ledger.now i) (cell_here kind ledger.now j) i j) }
-    ensures sum { Joins kind.figures (cell_here kind ledger.now i) (cell_here kind ledger.now j) result }
+    ensures is { S.fine shelf.now → verdict_told result ≡ first_no (join_asks K.kind.scale (S.view shelf.now) (cell_here K.kind ledger.now i) (cell_here K.kind ledger.now j) i j) }
+    ensures sum { Joins K.kind.figures (cell_here K.kind ledger.now i) (cell_here K.kind ledger.now j) result }
 {
     if !is_filled(shelf, i) {
         return Err(Fault::SourceUnfit);
@@ -57,7 +57,7 @@ pub fn join<K: CostKind, S: Shelf>(
     j: usize,
     sum: Cell<K::Amount>,
 )
-    ensures { fine shelf.old → Laid (fine shelf.new) (view shelf.new) (left_view kind.scale.tiers (view shelf.old) i j (cell_of kind.figures sum) (soft (zeros kind.scale.tiers))) (cells_of kind ledger.new) (left_cells (cells_of kind ledger.old) i j (cell_of kind.figures sum) (soft (zeros kind.scale.tiers))) }
+    ensures { S.fine shelf.old → Laid (S.fine shelf.new) (S.view shelf.new) (left_view K.kind.scale.tiers (S.view shelf.old) i j (cell_of K.kind.figures sum) (soft (zeros K.kind.scale.tiers))) (cells_of K.kind ledger.new) (left_cells (cells_of K.kind ledger.old) i j (cell_of K.kind.figures sum) (soft (zeros K.kind.scale.tiers))) }
 {
     settle::<K, S>(shelf, ledger, i, sum);
     settle::<K, S>(shelf, ledger, j, Cell::Soft(K::nothing()));

@@ -26,7 +26,7 @@ use shelf::store::Shelf;
 // Questions 9 and 10: both places hold a clause, i one with the variable and j one
 // with its opposite.
 fn ask_sources<S: Shelf>(shelf: &S, i: usize, j: usize, variable: u16) -> Result<(), Fault>
-    ensures { fine shelf.now → verdict_told result ≡ first_no (source_questions (view shelf.now) i j variable) }
+    ensures { S.fine shelf.now → verdict_told result ≡ first_no (source_questions (S.view shelf.now) i j variable) }
 {
     if !is_filled(shelf, i) {
         return Err(Fault::SourceUnfit);
@@ -54,8 +54,8 @@ fn ask_results<S: Shelf>(
     with_j: bool,
     to: usize,
 ) -> Result<bool, Fault>
-    ensures is { fine shelf.now → verdict_told result ≡ first_no (result_questions (view shelf.now) to (resolvents_at (view shelf.now) i j variable with_i with_j)) }
-    ensures empty { fine shelf.now → Empties (has_empty (resolvents_at (view shelf.now) i j variable with_i with_j)) result }
+    ensures is { S.fine shelf.now → verdict_told result ≡ first_no (result_questions (S.view shelf.now) to (resolvents_at (S.view shelf.now) i j variable with_i with_j)) }
+    ensures empty { S.fine shelf.now → Empties (has_empty (resolvents_at (S.view shelf.now) i j variable with_i with_j)) result }
 {
     let tally = survey_resolve(shelf, i, j, variable, with_i, with_j);
     if !tally.short {
@@ -78,8 +78,8 @@ pub fn ask_resolve<K: CostKind, S: Shelf>(
     variable: u16,
     to: usize,
 ) -> Result<Resolution<K::Amount>, Fault>
-    ensures is { fine shelf.now → verdict_told result ≡ first_no (resolve_asks kind.scale (view shelf.now) (cell_here kind ledger.now i) (cell_here kind ledger.now j) (kind.figures proved) i j variable to) }
-    ensures resolution { fine shelf.now → Resolves kind.figures (cell_here kind ledger.now i) (cell_here kind ledger.now j) (has_empty (resolvents_at (view shelf.now) i j variable (not (is_hard (cell_here kind ledger.now i))) (not (is_hard (cell_here kind ledger.now j))))) (kind.figures proved) result }
+    ensures is { S.fine shelf.now → verdict_told result ≡ first_no (resolve_asks K.kind.scale (S.view shelf.now) (cell_here K.kind ledger.now i) (cell_here K.kind ledger.now j) (K.kind.figures proved) i j variable to) }
+    ensures resolution { S.fine shelf.now → Resolves K.kind.figures (cell_here K.kind ledger.now i) (cell_here K.kind ledger.now j) (has_empty (resolvents_at (S.view shelf.now) i j variable (not (is_hard (cell_here K.kind ledger.now i))) (not (is_hard (cell_here K.kind ledger.now j))))) (K.kind.figures proved) result }
 {
     ask_sources(shelf, i, j, variable)?;
     let a = read_cell::<K>(ledger, i);
@@ -106,7 +106,7 @@ pub fn resolve<K: CostKind, S: Shelf>(
     to: usize,
     r: Resolution<K::Amount>,
 )
-    ensures { fine shelf.old → Placeable (view shelf.old) to (results_of (view shelf.old) i j variable r) → Carried kind (fine shelf.new) (view shelf.old) (view shelf.new) ledger.old ledger.new i j variable to r }
+    ensures { S.fine shelf.old → Placeable (S.view shelf.old) to (results_of (S.view shelf.old) i j variable r) → Carried K.kind (S.fine shelf.new) (S.view shelf.old) (S.view shelf.new) ledger.old ledger.new i j variable to r }
 {
     place_resolve(
         shelf,
@@ -125,7 +125,7 @@ pub fn resolve<K: CostKind, S: Shelf>(
 
 // The impossible mark once a result, empty or not, with this cell has been taken in.
 pub fn mark_after<K: CostKind>(mark: bool, empty: bool, cell: Cell<K::Amount>) -> bool
-    ensures { result ≡ (mark || (empty && is_hard (cell_of kind.figures cell))) }
+    ensures { result ≡ (mark || (empty && is_hard (cell_of K.kind.figures cell))) }
 {
     if mark {
         return true;

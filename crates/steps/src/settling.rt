@@ -18,7 +18,7 @@ pub(crate) fn settle<K: CostKind, S: Shelf>(
     place: usize,
     left: Cell<K::Amount>,
 )
-    ensures { fine shelf.old → Laid (fine shelf.new) (view shelf.new) (freed_if (nothing_left kind.scale.tiers (cell_of kind.figures left)) (view shelf.old) place) (cells_of kind ledger.new) (slice_set (cells_of kind ledger.old) place (cell_of kind.figures left)) }
+    ensures { S.fine shelf.old → Laid (S.fine shelf.new) (S.view shelf.new) (freed_if (nothing_left K.kind.scale.tiers (cell_of K.kind.figures left)) (S.view shelf.old) place) (cells_of K.kind ledger.new) (slice_set (cells_of K.kind ledger.old) place (cell_of K.kind.figures left)) }
 {
     write_cell::<K>(ledger, place, left);
     if is_nothing::<K>(left) {

@@ -25,7 +25,7 @@ use shelf::store::Shelf;
 // Question 10: the variable is 1 to the current number, and stands at the place in
 // neither sign.
 fn variable_is_new<S: Shelf>(shelf: &S, current: u16, place: usize, variable: u16) -> bool
-    ensures { fine shelf.now → result ≡ (nat_le 1 variable && (nat_le variable (known current (view shelf.now)) && not (stands variable (clause (view shelf.now) place)))) }
+    ensures { S.fine shelf.now → result ≡ (nat_le 1 variable && (nat_le variable (known current (S.view shelf.now)) && not (stands variable (clause (S.view shelf.now) place)))) }
 {
     if variable < 1 {
         return false;
@@ -48,7 +48,7 @@ pub fn ask_split<S: Shelf>(
     variable: u16,
     to: usize,
 ) -> Result<(), Fault>
-    ensures { fine shelf.now → verdict_told result ≡ first_no (split_asks (view shelf.now) current place variable to) }
+    ensures { S.fine shelf.now → verdict_told result ≡ first_no (split_asks (S.view shelf.now) current place variable to) }
 {
     if !is_filled(shelf, place) {
         return Err(Fault::SourceUnfit);
@@ -73,7 +73,7 @@ pub fn split<K: CostKind, S: Shelf>(
     variable: u16,
     to: usize,
 )
-    ensures { fine shelf.old → (n : ℕ) → passes ≡ first_no (split_asks (view shelf.old) n place variable to) → Laid (fine shelf.new) (view shelf.new) (split_view (view shelf.old) place variable to) (cells_of kind ledger.new) (slice_set (cells_of kind ledger.old) to (cell_here kind ledger.old place)) }
+    ensures { S.fine shelf.old → (n : ℕ) → passes ≡ first_no (split_asks (S.view shelf.old) n place variable to) → Laid (S.fine shelf.new) (S.view shelf.new) (split_view (S.view shelf.old) place variable to) (cells_of K.kind ledger.new) (slice_set (cells_of K.kind ledger.old) to (cell_here K.kind ledger.old place)) }
 {
     split_place(shelf, place, variable, to);
     let cell = read_cell::<K>(ledger, place);

@@ -19,7 +19,7 @@ pub(crate) fn ledger_is_long_enough<K: CostKind, S: Shelf>(
     shelf: &S,
     ledger: &[Cell<K::Row>],
 ) -> bool
-    ensures { fine shelf.now → result ≡ nat_le (view shelf.now).places (length (cells_of kind ledger.now)) }
+    ensures { S.fine shelf.now → result ≡ nat_le (S.view shelf.now).places (length (cells_of K.kind ledger.now)) }
 {
     shelf.place_count() <= ledger.len()
 }
@@ -64,7 +64,7 @@ pub(crate) fn take_clause<S: Shelf>(
     out: &mut [u32; 255],
 ) -> Option<usize>
     ensures low { IfSome result (λ m. m ≤ 255) }
-    ensures is { fine shelf.now → clause_told out.new result ≡ (if clause_fits n (view shelf.now) (codes_of clause.now) then Some (codes_of clause.now) else None) }
+    ensures is { S.fine shelf.now → clause_told out.new result ≡ (if clause_fits n (S.view shelf.now) (codes_of clause.now) then Some (codes_of clause.now) else None) }
 {
     if clause.len() > shelf.longest_clause() {
         return None;

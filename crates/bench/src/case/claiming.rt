@@ -16,20 +16,20 @@ use std::cmp::Ordering;
 impl<K: CostKind> Bench<K> {
     // Where the case is.
     pub fn phase(&self) -> Phase
-        ensures { phase_of result ≡ (case_of kind self.now).phase }
+        ensures { phase_of result ≡ (case_of K.kind self.now).phase }
     {
         self.phase
     }
 
     // The proved cost so far.
     pub fn proved(&self) -> K::Amount
-        ensures { kind.figures result ≡ (case_of kind self.now).proved }
+        ensures { K.kind.figures result ≡ (case_of K.kind self.now).proved }
     {
         self.proved
     }
 
     fn ask_cheapest<S: Shelf>(&self, shelf: &S, ledger: &[Cell<K::Row>]) -> Result<(), Fault>
-        ensures { fine shelf.now → verdict_told result ≡ first_no (cheapest_questions (state_at kind view self.entry shelf.entry ledger.entry)) }
+        ensures { S.fine shelf.now → verdict_told result ≡ first_no (cheapest_questions (state_at K.kind S.view self.entry shelf.entry ledger.entry)) }
     {
         self.ask_step(shelf, ledger)?;
         match self.shown {
@@ -47,7 +47,7 @@ impl<K: CostKind> Bench<K> {
         shelf: &S,
         ledger: &[Cell<K::Row>],
     ) -> Result<K::Amount, Fault>
-        ensures did { fine shelf.now → Done (fine shelf.now) (cheapest_told kind.figures result) (state_at kind view self.exit shelf.entry ledger.entry) (cheapest_does (state_at kind view self.entry shelf.entry ledger.entry)) }
+        ensures did { S.fine shelf.now → Done (S.fine shelf.now) (cheapest_told K.kind.figures result) (state_at K.kind S.view self.exit shelf.entry ledger.entry) (cheapest_does (state_at K.kind S.view self.entry shelf.entry ledger.entry)) }
         ensures refused { IfRefused result (self.new ≡ self.old) }
     {
         self.ask_cheapest(shelf, ledger)?;
@@ -56,7 +56,7 @@ impl<K: CostKind> Bench<K> {
     }
 
     fn ask_impossible<S: Shelf>(&self, shelf: &S, ledger: &[Cell<K::Row>]) -> Result<(), Fault>
-        ensures { fine shelf.now → verdict_told result ≡ first_no (impossible_questions (state_at kind view self.entry shelf.entry ledger.entry)) }
+        ensures { S.fine shelf.now → verdict_told result ≡ first_no (impossible_questions (state_at K.kind S.view self.entry shelf.entry ledger.entry)) }
     {
         self.ask_step(shelf, ledger)?;
         if !self.impossible {
@@ -67,7 +67,7 @@ impl<K: CostKind> Bench<K> {
 
     // Claims that no plan meets every hard clause. A granted claim closes the case.
     pub fn impossible<S: Shelf>(&mut self, shelf: &S, ledger: &[Cell<K::Row>]) -> Result<(), Fault>
-        ensures did { fine shelf.now → Done (fine shelf.now) (granted_told result) (state_at kind view self.exit shelf.entry ledger.entry) (impossible_does (state_at kind view self.entry shelf.entry ledger.entry)) }
+        ensures did { S.fine shelf.now → Done (S.fine shelf.now) (granted_told result) (state_at K.kind S.view self.exit shelf.entry ledger.entry) (impossible_does (state_at K.kind S.view self.entry shelf.entry ledger.entry)) }
         ensures refused { IfRefused result (self.new ≡ self.old) }
     {
         self.ask_impossible(shelf, ledger)?;

@@ -36,7 +36,7 @@ fn put_clause<K: CostKind, S: Shelf>(
     codes: &[u32],
     cell: Cell<K::Amount>,
 )
-    ensures { fine shelf.old → Writable (view shelf.old) place codes.now → Laid (fine shelf.new) (view shelf.new) (with_held (view shelf.old) (slice_set (view shelf.old).held place codes.now)) (cells_of kind ledger.new) (slice_set (cells_of kind ledger.old) place (cell_of kind.figures cell)) }
+    ensures { S.fine shelf.old → Writable (S.view shelf.old) place codes.now → Laid (S.fine shelf.new) (S.view shelf.new) (with_held (S.view shelf.old) (slice_set (S.view shelf.old).held place codes.now)) (cells_of K.kind ledger.new) (slice_set (cells_of K.kind ledger.old) place (cell_of K.kind.figures cell)) }
 {
     write_codes(shelf, place, codes);
     write_cell::<K>(ledger, place, cell);
@@ -45,7 +45,7 @@ fn put_clause<K: CostKind, S: Shelf>(
 impl<K: CostKind> Bench<K> {
     // A bench with no case yet, whatever shelf and ledger hold.
     pub fn new() -> Bench<K>
-        ensures { case_of kind result ≡ idle_case kind.scale.tiers }
+        ensures { case_of K.kind result ≡ idle_case K.kind.scale.tiers }
     {
         let nothing = K::nothing();
         Bench {
@@ -60,7 +60,7 @@ impl<K: CostKind> Bench<K> {
     }
 
     fn ask_open<S: Shelf>(&self, shelf: &S, ledger: &[Cell<K::Row>], n: u16) -> Result<(), Fault>
-        ensures { fine shelf.now → verdict_told result ≡ first_no (open_questions (state_at kind view self.entry shelf.entry ledger.entry) n) }
+        ensures { S.fine shelf.now → verdict_told result ≡ first_no (open_questions (state_at K.kind S.view self.entry shelf.entry ledger.entry) n) }
     {
         if !ledger_is_long_enough::<K, S>(shelf, ledger) {
             return Err(Fault::LedgerTooShort);
@@ -79,9 +79,9 @@ impl<K: CostKind> Bench<K> {
         ledger: &mut [Cell<K::Row>],
         n: u16,
     ) -> Result<(), Fault>
-        ensures did { fine shelf.old → Done (fine shelf.new) (granted_told result) (state_at kind view self.exit shelf.exit ledger.exit) (open_does kind.scale (state_at kind view self.entry shelf.entry ledger.entry) n) }
+        ensures did { S.fine shelf.old → Done (S.fine shelf.new) (granted_told result) (state_at K.kind S.view self.exit shelf.exit ledger.exit) (open_does K.kind.scale (state_at K.kind S.view self.entry shelf.entry ledger.entry) n) }
         ensures refused { IfRefused result ((self.new ≡ self.old) × (shelf.new ≡ shelf.old) × (ledger.new ≡ ledger.old)) }
-        ensures cleared { IfGranted result ((a : K.Amount) → kind.figures a ≡ zeros kind.scale.tiers → ledger.new ≡ replicate (length ledger.old) (SoftCell (kind.row a))) }
+        ensures cleared { IfGranted result ((a : K.Amount) → K.kind.figures a ≡ zeros K.kind.scale.tiers → ledger.new ≡ replicate (length ledger.old) (SoftCell (K.kind.row a))) }
     {
         self.ask_open(shelf, ledger, n)?;
         wipe_all(shelf);
@@ -108,8 +108,8 @@ impl<K: CostKind> Bench<K> {
         out: &mut [u32; 255],
     ) -> Result<usize, Fault>
         ensures low { IfOk result (λ m. m ≤ 255) }
-        ensures is { fine shelf.now → verdict_told result ≡ first_no (clause_questions (state_at kind view self.entry shelf.entry ledger.entry) place (codes_of clause.now)) }
-        ensures copied { fine shelf.now → Copied out.new (codes_of clause.now) result }
+        ensures is { S.fine shelf.now → verdict_told result ≡ first_no (clause_questions (state_at K.kind S.view self.entry shelf.entry ledger.entry) place (codes_of clause.now)) }
+        ensures copied { S.fine shelf.now → Copied out.new (codes_of clause.now) result }
     {
         if !ledger_is_long_enough::<K, S>(shelf, ledger) {
             return Err(Fault::LedgerTooShort);
@@ -137,7 +137,7 @@ impl<K: CostKind> Bench<K> {
         place: usize,
         clause: &[Literal],
     ) -> Result<(), Fault>
-        ensures did { fine shelf.old → Done (fine shelf.new) (granted_told result) (state_at kind view self.exit shelf.exit ledger.exit) (hard_does kind.scale (state_at kind view self.entry shelf.entry ledger.entry) place (codes_of clause.now)) }
+        ensures did { S.fine shelf.old → Done (S.fine shelf.new) (granted_told result) (state_at K.kind S.view self.exit shelf.exit ledger.exit) (hard_does K.kind.scale (state_at K.kind S.view self.entry shelf.entry ledger.entry) place (codes_of clause.now)) }
         ensures refused { IfRefused result ((self.new ≡ self.old) × (shelf.new ≡ shelf.old) × (ledger.new ≡ ledger.old)) }
     {
         let mut codes = [0u32; 255];
@@ -160,8 +160,8 @@ impl<K: CostKind> Bench<K> {
         out: &mut [u32; 255],
     ) -> Result<Accepted<K::Amount>, Fault>
         ensures low { IfOk result (λ a. a.count ≤ 255) }
-        ensures is { fine shelf.now → verdict_told result ≡ first_no (soft_questions kind.scale (state_at kind view self.entry shelf.entry ledger.entry) place figures.now (codes_of clause.now)) }
-        ensures accepted { fine shelf.now → Accepts kind.figures out.new (codes_of clause.now) figures.now (kind.figures self.now.total) (kind.figures self.now.proved) result }
+        ensures is { S.fine shelf.now → verdict_told result ≡ first_no (soft_questions K.kind.scale (state_at K.kind S.view self.entry shelf.entry ledger.entry) place figures.now (codes_of clause.now)) }
+        ensures accepted { S.fine shelf.now → Accepts K.kind.figures out.new (codes_of clause.now) figures.now (K.kind.figures self.now.total) (K.kind.figures self.now.proved) result }
     {
         let count = self.ask_clause(shelf, ledger, place, clause, out)?;
         match take_amount::<K>(figures, self.total) {
@@ -190,7 +190,7 @@ impl<K: CostKind> Bench<K> {
         figures: &[i64],
         clause: &[Literal],
     ) -> Result<(), Fault>
-        ensures did { fine shelf.old → Done (fine shelf.new) (granted_told result) (state_at kind view self.exit shelf.exit ledger.exit) (soft_does kind.scale (state_at kind view self.entry shelf.entry ledger.entry) place figures.now (codes_of clause.now)) }
+        ensures did { S.fine shelf.old → Done (S.fine shelf.new) (granted_told result) (state_at K.kind S.view self.exit shelf.exit ledger.exit) (soft_does K.kind.scale (state_at K.kind S.view self.entry shelf.entry ledger.entry) place figures.now (codes_of clause.now)) }
         ensures refused { IfRefused result ((self.new ≡ self.old) × (shelf.new ≡ shelf.old) × (ledger.new ≡ ledger.old)) }
     {
         let mut codes = [0u32; 255];
@@ -210,7 +210,7 @@ impl<K: CostKind> Bench<K> {
     }
 
     fn ask_seal<S: Shelf>(&self, shelf: &S, ledger: &[Cell<K::Row>]) -> Result<(), Fault>
-        ensures { fine shelf.now → verdict_told result ≡ first_no (seal_questions (state_at kind view self.entry shelf.entry ledger.entry)) }
+        ensures { S.fine shelf.now → verdict_told result ≡ first_no (seal_questions (state_at K.kind S.view self.entry shelf.entry ledger.entry)) }
     {
         if !ledger_is_long_enough::<K, S>(shelf, ledger) {
             return Err(Fault::LedgerTooShort);
@@ -223,7 +223,7 @@ impl<K: CostKind> Bench<K> {
 
     // Ends filling.
     pub fn seal<S: Shelf>(&mut self, shelf: &S, ledger: &[Cell<K::Row>]) -> Result<(), Fault>
-        ensures did { fine shelf.now → Done (fine shelf.now) (granted_told result) (state_at kind view self.exit shelf.entry ledger.entry) (seal_does (state_at kind view self.entry shelf.entry ledger.entry)) }
+        ensures did { S.fine shelf.now → Done (S.fine shelf.now) (granted_told result) (state_at K.kind S.view self.exit shelf.entry ledger.entry) (seal_does (state_at K.kind S.view self.entry shelf.entry ledger.entry)) }
         ensures refused { IfRefused result (self.new ≡ self.old) }
     {
         self.ask_seal(shelf, ledger)?;

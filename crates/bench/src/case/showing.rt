@@ -24,8 +24,8 @@ impl<K: CostKind> Bench<K> {
         ledger: &[Cell<K::Row>],
         strip: &[u8],
     ) -> Result<(K::Amount, usize), Fault>
-        ensures is { fine shelf.now → verdict_told result ≡ first_no (show_questions kind.scale (state_at kind view self.entry shelf.entry ledger.entry) strip.now) }
-        ensures bill { fine shelf.now → Bills kind.figures (kind.figures self.now.proved) (owed strip.now (view shelf.now).held (cells_of kind ledger.now)) result }
+        ensures is { S.fine shelf.now → verdict_told result ≡ first_no (show_questions K.kind.scale (state_at K.kind S.view self.entry shelf.entry ledger.entry) strip.now) }
+        ensures bill { S.fine shelf.now → Bills K.kind.figures (K.kind.figures self.now.proved) (owed strip.now (S.view shelf.now).held (cells_of K.kind ledger.now)) result }
     {
         if !ledger_is_long_enough::<K, S>(shelf, ledger) {
             return Err(Fault::LedgerTooShort);
@@ -53,7 +53,7 @@ impl<K: CostKind> Bench<K> {
         ledger: &[Cell<K::Row>],
         strip: &[u8],
     ) -> Result<(K::Amount, usize), Fault>
-        ensures did { fine shelf.now → Done (fine shelf.now) (shown_told kind.figures result) (state_at kind view self.exit shelf.entry ledger.entry) (show_does kind.scale (state_at kind view self.entry shelf.entry ledger.entry) strip.now) }
+        ensures did { S.fine shelf.now → Done (S.fine shelf.now) (shown_told K.kind.figures result) (state_at K.kind S.view self.exit shelf.entry ledger.entry) (show_does K.kind.scale (state_at K.kind S.view self.entry shelf.entry ledger.entry) strip.now) }
         ensures refused { IfRefused result (self.new ≡ self.old) }
     {
         let owing = self.ask_show(shelf, ledger, strip)?;
