@@ -5,5 +5,5 @@ use Rattle.masks.proofs.lone_literal.Goals as goal
 
 pub returns : goal.returns
 returns c =
-    let d = c.in-ok-add.ensures.did c.new-shelf.ensures.fine in
+    let d = c.in_ok-add.ensures.did c.new-shelf.ensures.fine in
     lone_told (made_view (length c.args.words.now)) c.args.literal.code c.size.result _ _ refl c.new-shelf.ensures.view d.answer d.view (c.size.ensures.is d.fine)

@@ -8,8 +8,8 @@ use Rattle.ledger.specs.Meaning.{cell_of, cells_of}
 use Rattle.ledger.proofs.Billing.{met_turn, met_end}
 use Rattle.ledger.proofs.bills.meets_hard.Goals as goal
 
-pub returns-then-not-met-if-hard : goal.returns-then-not-met-if-hard
-returns-then-not-met-if-hard g c h =
+pub returns-then-not-met_if_hard : goal.returns-then-not-met_if_hard
+returns-then-not-met_if_hard g c h =
     let k = g.K.CostKind.kind in
     let v = g.S.Shelf.view c.args.shelf.now in
     let ks = cells_of k c.args.ledger.now in
@@ -18,7 +18,7 @@ returns-then-not-met-if-hard g c h =
     let m = length-map c.args.ledger.now (cell_of k.back) in
     let p = c.loop-p.p in
     let x = c.args.strip.now in
-    let e = sym (c.met-if-hard.ensures h) ∙ c.if-not-met-if-hard.true in
+    let e = sym (c.met_if_hard.ensures h) ∙ c.if-not-met_if_hard.true in
     sym (and_left _ (hard_met x (drop (p + 1) v.held) (drop (p + 1) ks)) e) ∙ sym (met_turn x v.held ks p (soft (zeros k.scale.tiers)) (omega arith) (omega arith)) ∙ c.loop-p.invariant h
 
 pub loop-p-preserved : goal.loop-p-preserved
@@ -31,7 +31,7 @@ loop-p-preserved g c h =
     let m = length-map c.args.ledger.now (cell_of k.back) in
     let p = c.loop-p.p in
     let x = c.args.strip.now in
-    let e = sym (c.met-if-hard.ensures h) ∙ c.if-not-met-if-hard.false in
+    let e = sym (c.met_if_hard.ensures h) ∙ c.if-not-met_if_hard.false in
     ap (λ (b : Bool). b && hard_met x (drop (p + 1) v.held) (drop (p + 1) ks)) (sym e) ∙ sym (met_turn x v.held ks p (soft (zeros k.scale.tiers)) (omega arith) (omega arith)) ∙ c.loop-p.invariant h
 
 pub returns : goal.returns

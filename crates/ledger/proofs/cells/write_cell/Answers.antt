@@ -9,8 +9,8 @@ returns-then-place-ledger g c =
     let k = g.K.CostKind.kind in
     let cs = c.args.ledger.now in
     record {
-      is = ap (set cs c.args.place) c.row-cell.ensures.is;
-      means = map-set (cell_of k.back) cs c.args.place c.row-cell.result ∙ ap (λ (x : Cell). set (cells_of k cs) c.args.place x) c.row-cell.ensures.means;
+      is = ap (set cs c.args.place) c.row_cell.ensures.is;
+      means = map-set (cell_of k.back) cs c.args.place c.row_cell.result ∙ ap (λ (x : Cell). set (cells_of k cs) c.args.place x) c.row_cell.ensures.means;
     }
 
 pub returns-else-place-ledger : goal.returns-else-place-ledger

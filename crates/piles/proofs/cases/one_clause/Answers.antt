@@ -10,8 +10,8 @@ use Rattle.piles.specs.Sequence.{one_clause_case}
 use Rattle.piles.proofs.Sequences.{ends, stops_here, goes_on, goes_on_shown}
 use Rattle.piles.proofs.cases.one_clause.Goals as goal
 
-pub returns-in-err-open : goal.returns-in-err-open
-returns-in-err-open g c h =
+pub returns-in_err-open : goal.returns-in_err-open
+returns-in_err-open g c h =
     let k = g.K.CostKind.kind in
     let xs = c.args.figures.now in
     let view = g.S.Shelf.view in
@@ -19,65 +19,65 @@ returns-in-err-open g c h =
     let a₀ = state_of k c.new-bench.result v c.args.ledger.now in
     let start = ap (λ b. one_clause_case k.scale (record { bench = b; shelf = v; ledger = cells_of k c.args.ledger.now }) xs) c.new-bench.ensures in
     let p = err_from_is_err_and c.from-residual.result c.from-residual.ensures.1 in
-    let d = c.in-err-open.ensures.did h in
+    let d = c.in_err-open.ensures.did h in
     rw (p.1, p.2) (stops_here k.scale a₀ _ (opens 1) (gives_soft 0 xs (2 ∷ []) ∷ seals ∷ shows (1 ∷ []) ∷ claims_cheapest ∷ []) d ∙ start)
 
-pub returns-in-err-soft : goal.returns-in-err-soft
-returns-in-err-soft g c h =
+pub returns-in_err-soft : goal.returns-in_err-soft
+returns-in_err-soft g c h =
     let k = g.K.CostKind.kind in
     let xs = c.args.figures.now in
     let view = g.S.Shelf.view in
     let v = view c.args.shelf.now in
     let a₀ = state_of k c.new-bench.result v c.args.ledger.now in
     let start = ap (λ b. one_clause_case k.scale (record { bench = b; shelf = v; ledger = cells_of k c.args.ledger.now }) xs) c.new-bench.ensures in
-    let d₁ = c.in-ok-open.ensures.did h in
+    let d₁ = c.in_ok-open.ensures.did h in
     let a₁ = state_of k c.open.new.self (view c.open.new.shelf) c.open.new.ledger in
     let g₁ = goes_on k.scale a₀ a₁ (opens 1) (gives_soft 0 xs (2 ∷ [])) (seals ∷ shows (1 ∷ []) ∷ claims_cheapest ∷ []) d₁ in
-    let F : ℕ → Type 0 = λ n. Done (g.S.Shelf.fine c.soft.new.shelf) (refused (number_of c.in-err-soft.field-0.0) (tier_of c.in-err-soft.field-0.0)) (state_of k c.soft.new.self (view c.soft.new.shelf) c.soft.new.ledger) (soft_does k.scale a₁ 0 xs (n ∷ [])) in
-    let d₂ = subst F c.of.ensures (c.in-err-soft.ensures.did d₁.fine) in
+    let F : ℕ → Type 0 = λ n. Done (g.S.Shelf.fine c.soft.new.shelf) (refused (number_of c.in_err-soft.field-0.0) (tier_of c.in_err-soft.field-0.0)) (state_of k c.soft.new.self (view c.soft.new.shelf) c.soft.new.ledger) (soft_does k.scale a₁ 0 xs (n ∷ [])) in
+    let d₂ = subst F c.of.ensures (c.in_err-soft.ensures.did d₁.fine) in
     let a₂ = state_of k c.soft.new.self (view c.soft.new.shelf) c.soft.new.ledger in
-    let p = err_from_is_err_and c.from-residual-in-err-soft.result c.from-residual-in-err-soft.ensures.1 in
+    let p = err_from_is_err_and c.from-residual-in_err-soft.result c.from-residual-in_err-soft.ensures.1 in
     rw (p.1, p.2) (stops_here k.scale a₁ a₂ (gives_soft 0 xs (2 ∷ [])) (seals ∷ shows (1 ∷ []) ∷ claims_cheapest ∷ []) d₂ ∙ g₁ ∙ start)
 
-pub returns-in-err-seal : goal.returns-in-err-seal
-returns-in-err-seal g c h =
+pub returns-in_err-seal : goal.returns-in_err-seal
+returns-in_err-seal g c h =
     let k = g.K.CostKind.kind in
     let xs = c.args.figures.now in
     let view = g.S.Shelf.view in
     let v = view c.args.shelf.now in
     let a₀ = state_of k c.new-bench.result v c.args.ledger.now in
     let start = ap (λ b. one_clause_case k.scale (record { bench = b; shelf = v; ledger = cells_of k c.args.ledger.now }) xs) c.new-bench.ensures in
-    let d₁ = c.in-ok-open.ensures.did h in
+    let d₁ = c.in_ok-open.ensures.did h in
     let a₁ = state_of k c.open.new.self (view c.open.new.shelf) c.open.new.ledger in
     let g₁ = goes_on k.scale a₀ a₁ (opens 1) (gives_soft 0 xs (2 ∷ [])) (seals ∷ shows (1 ∷ []) ∷ claims_cheapest ∷ []) d₁ in
     let F : ℕ → Type 0 = λ n. Done (g.S.Shelf.fine c.soft.new.shelf) granted (state_of k c.soft.new.self (view c.soft.new.shelf) c.soft.new.ledger) (soft_does k.scale a₁ 0 xs (n ∷ [])) in
-    let d₂ = subst F c.of.ensures (c.in-ok-soft.ensures.did d₁.fine) in
+    let d₂ = subst F c.of.ensures (c.in_ok-soft.ensures.did d₁.fine) in
     let a₂ = state_of k c.soft.new.self (view c.soft.new.shelf) c.soft.new.ledger in
     let g₂ = goes_on k.scale a₁ a₂ (gives_soft 0 xs (2 ∷ [])) seals (shows (1 ∷ []) ∷ claims_cheapest ∷ []) d₂ in
-    let p = err_from_is_err_and c.from-residual-in-err-seal.result c.from-residual-in-err-seal.ensures.1 in
-    let d = c.in-err-seal.ensures.did d₂.fine in
+    let p = err_from_is_err_and c.from-residual-in_err-seal.result c.from-residual-in_err-seal.ensures.1 in
+    let d = c.in_err-seal.ensures.did d₂.fine in
     rw (p.1, p.2) (stops_here k.scale a₂ _ seals (shows (1 ∷ []) ∷ claims_cheapest ∷ []) d ∙ g₂ ∙ g₁ ∙ start)
 
-pub returns-in-err-show : goal.returns-in-err-show
-returns-in-err-show g c h =
+pub returns-in_err-show : goal.returns-in_err-show
+returns-in_err-show g c h =
     let k = g.K.CostKind.kind in
     let xs = c.args.figures.now in
     let view = g.S.Shelf.view in
     let v = view c.args.shelf.now in
     let a₀ = state_of k c.new-bench.result v c.args.ledger.now in
     let start = ap (λ b. one_clause_case k.scale (record { bench = b; shelf = v; ledger = cells_of k c.args.ledger.now }) xs) c.new-bench.ensures in
-    let d₁ = c.in-ok-open.ensures.did h in
+    let d₁ = c.in_ok-open.ensures.did h in
     let a₁ = state_of k c.open.new.self (view c.open.new.shelf) c.open.new.ledger in
     let g₁ = goes_on k.scale a₀ a₁ (opens 1) (gives_soft 0 xs (2 ∷ [])) (seals ∷ shows (1 ∷ []) ∷ claims_cheapest ∷ []) d₁ in
     let F : ℕ → Type 0 = λ n. Done (g.S.Shelf.fine c.soft.new.shelf) granted (state_of k c.soft.new.self (view c.soft.new.shelf) c.soft.new.ledger) (soft_does k.scale a₁ 0 xs (n ∷ [])) in
-    let d₂ = subst F c.of.ensures (c.in-ok-soft.ensures.did d₁.fine) in
+    let d₂ = subst F c.of.ensures (c.in_ok-soft.ensures.did d₁.fine) in
     let a₂ = state_of k c.soft.new.self (view c.soft.new.shelf) c.soft.new.ledger in
     let g₂ = goes_on k.scale a₁ a₂ (gives_soft 0 xs (2 ∷ [])) seals (shows (1 ∷ []) ∷ claims_cheapest ∷ []) d₂ in
-    let d₃ = c.in-ok-seal.ensures.did d₂.fine in
+    let d₃ = c.in_ok-seal.ensures.did d₂.fine in
     let a₃ = state_of k c.seal.new.self (view c.soft.new.shelf) c.soft.new.ledger in
     let g₃ = goes_on k.scale a₂ a₃ seals (shows (1 ∷ [])) (claims_cheapest ∷ []) d₃ in
-    let p = err_from_is_err_and c.from-residual-in-err-show.result c.from-residual-in-err-show.ensures.1 in
-    let d = c.in-err-show.ensures.did d₂.fine in
+    let p = err_from_is_err_and c.from-residual-in_err-show.result c.from-residual-in_err-show.ensures.1 in
+    let d = c.in_err-show.ensures.did d₂.fine in
     rw (p.1, p.2) (stops_here k.scale a₃ _ (shows (1 ∷ [])) (claims_cheapest ∷ []) d ∙ g₃ ∙ g₂ ∙ g₁ ∙ start)
 
 pub returns : goal.returns
@@ -88,17 +88,17 @@ returns g c h =
     let v = view c.args.shelf.now in
     let a₀ = state_of k c.new-bench.result v c.args.ledger.now in
     let start = ap (λ b. one_clause_case k.scale (record { bench = b; shelf = v; ledger = cells_of k c.args.ledger.now }) xs) c.new-bench.ensures in
-    let d₁ = c.in-ok-open.ensures.did h in
+    let d₁ = c.in_ok-open.ensures.did h in
     let a₁ = state_of k c.open.new.self (view c.open.new.shelf) c.open.new.ledger in
     let g₁ = goes_on k.scale a₀ a₁ (opens 1) (gives_soft 0 xs (2 ∷ [])) (seals ∷ shows (1 ∷ []) ∷ claims_cheapest ∷ []) d₁ in
     let F : ℕ → Type 0 = λ n. Done (g.S.Shelf.fine c.soft.new.shelf) granted (state_of k c.soft.new.self (view c.soft.new.shelf) c.soft.new.ledger) (soft_does k.scale a₁ 0 xs (n ∷ [])) in
-    let d₂ = subst F c.of.ensures (c.in-ok-soft.ensures.did d₁.fine) in
+    let d₂ = subst F c.of.ensures (c.in_ok-soft.ensures.did d₁.fine) in
     let a₂ = state_of k c.soft.new.self (view c.soft.new.shelf) c.soft.new.ledger in
     let g₂ = goes_on k.scale a₁ a₂ (gives_soft 0 xs (2 ∷ [])) seals (shows (1 ∷ []) ∷ claims_cheapest ∷ []) d₂ in
-    let d₃ = c.in-ok-seal.ensures.did d₂.fine in
+    let d₃ = c.in_ok-seal.ensures.did d₂.fine in
     let a₃ = state_of k c.seal.new.self (view c.soft.new.shelf) c.soft.new.ledger in
     let g₃ = goes_on k.scale a₂ a₃ seals (shows (1 ∷ [])) (claims_cheapest ∷ []) d₃ in
-    let d₄ = c.in-ok-show.ensures.did d₂.fine in
+    let d₄ = c.in_ok-show.ensures.did d₂.fine in
     let a₄ = state_of k c.show.new.self (view c.soft.new.shelf) c.soft.new.ledger in
     let g₄ = goes_on_shown k.scale a₃ a₄ (shows (1 ∷ [])) claims_cheapest [] _ _ d₄ in
     let d₅ = c.cheapest.ensures.did d₂.fine in

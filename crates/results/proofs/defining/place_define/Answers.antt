@@ -12,15 +12,15 @@ returns g c =
     let v = g.S.Shelf.view c.args.shelf.now in
     let d = c.args.variable in
     let ls = c.args.literals.now in
-    let n = c.copy-codes-count.result in
+    let n = c.copy_codes-count.result in
     record {
       did = λ h a b.
           let low = (g.S.Shelf.sound _ h).longest_high in
           let short = a.short in
-          let long : length (codes c.args.literals.now) ≤ c.copy-codes-count.result = omega (arith, length-map ls (λ l. l.code), c.copy-codes-count.ensures.count) in
-          let e : take n c.copy-codes-count.new.out ≡ codes ls = c.copy-codes-count.ensures.is ∙ take_all n (codes ls) long in
+          let long : length (codes c.args.literals.now) ≤ c.copy_codes-count.result = omega (arith, length-map ls (λ l. l.code), c.copy_codes-count.ensures.count) in
+          let e : take n c.copy_codes-count.new.out ≡ codes ls = c.copy_codes-count.ensures.is ∙ take_all n (codes ls) long in
           let P : List ℕ → Type 0 = λ xs. AllSpread v.highest (defining d xs) → Placeable v c.args.to (defining d xs)
-          → Laid (g.S.Shelf.fine c.place-all.new.shelf) (g.S.Shelf.view c.place-all.new.shelf) (after_placing v c.args.to (defining d xs)) c.place-all.new.cells (laid c.args.to (alike c.args.m (kept (defining d xs))) c.args.cells.now) in
-          subst P e (c.place-all.ensures.did h) (defining_spread v.highest d a.some a.known (codes ls) a.rises a.new) b;
-      framed = c.place-all.ensures.framed;
+          → Laid (g.S.Shelf.fine c.place_all.new.shelf) (g.S.Shelf.view c.place_all.new.shelf) (after_placing v c.args.to (defining d xs)) c.place_all.new.cells (laid c.args.to (alike c.args.m (kept (defining d xs))) c.args.cells.now) in
+          subst P e (c.place_all.ensures.did h) (defining_spread v.highest d a.some a.known (codes ls) a.rises a.new) b;
+      framed = c.place_all.ensures.framed;
     }

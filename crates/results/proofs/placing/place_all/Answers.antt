@@ -8,15 +8,15 @@ loop-t-preserved g c =
     let v = g.S.Shelf.view c.args.shelf.now in (
       λ h.
           let f = c.loop-t.invariant.0 h in
-          let o = c.place-one-place.ensures.framed f.fine in
-          record { fine = o.fine; view = o.view ∙ ap (λ (x : View). with_held x (g.S.Shelf.view c.place-one-place.new.shelf).held) f.view },
+          let o = c.place_one-place.ensures.framed f.fine in
+          record { fine = o.fine; view = o.view ∙ ap (λ (x : View). with_held x (g.S.Shelf.view c.place_one-place.new.shelf).held) f.view },
       λ h s a.
           let rs = g.R.Listed.listed c.args.rs.now in
           let e : take c.result-len.result c.result-len.new.out ≡ get_or rs c.loop-t.t [] = c.result-len.ensures.is in
           let j = c.loop-t.invariant.1 h s a in
           let l : c.loop-t.t < length rs = omega arith in
-          let next = rw e at (c.place-one-place.ensures.next j.0) in
-          let did = rw e at (c.place-one-place.ensures.did j.0) in
+          let next = rw e at (c.place_one-place.ensures.next j.0) in
+          let did = rw e at (c.place_one-place.ensures.did j.0) in
           let d = did (spread_here j.1 l s) (placeable j.1 l) in
           (d.fine, laying_more j.1 l (next (spread_here j.1 l s) (placeable j.1 l)) d.view d.cells),
     )

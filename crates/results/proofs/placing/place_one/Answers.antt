@@ -25,13 +25,13 @@ returns-then-clashes g c =
     }
 
 -- past the last place there is no room
-pub returns-then-place-place-count : goal.returns-then-place-place-count
-returns-then-place-place-count g c =
+pub returns-then-place-place_count : goal.returns-then-place-place_count
+returns-then-place-place_count g c =
     let r = c.args.codes.now in
     let v = g.S.Shelf.view c.args.shelf.now in
     let never : g.S.Shelf.fine c.args.shelf.now → Spread v.highest 2 r → Placeable v c.args.place (r ∷ []) → ⊥ = λ h s a.
     let e : vanishes r ≡ false = sym (c.clashes.ensures _ s) ∙ c.if-clashes.false in
-    let n = c.place-count.ensures.is h in
+    let n = c.place_count.ensures.is h in
     let l = there v c.args.place (writable s a e (kept_alone r e c.if-codes-eq0.false)).is_vacant in
     omega arith in
     record { next = λ h s a. elim (never h s a) [ ]; did = λ h s a. elim (never h s a) [ ]; framed = λ h. record { fine = h; view = refl } }
@@ -45,12 +45,12 @@ returns g c =
       did = λ h s a.
           let e : vanishes r ≡ false = sym (c.clashes.ensures _ s) ∙ c.if-clashes.false in
           record {
-            fine = (c.write-codes.ensures.did h).fine;
-            view = c.write-codes.ensures.whole h (writable s a e (kept_alone r e c.if-codes-eq0.false)) ∙ (d e).1;
-            cells = c.write-cell.ensures ∙ (d e).2;
+            fine = (c.write_codes.ensures.did h).fine;
+            view = c.write_codes.ensures.whole h (writable s a e (kept_alone r e c.if-codes-eq0.false)) ∙ (d e).1;
+            cells = c.write_cell.ensures ∙ (d e).2;
           };
       framed = λ h.
           let v = g.S.Shelf.view c.args.shelf.now in
-          let w = c.write-codes.ensures.did h in
+          let w = c.write_codes.ensures.did h in
           record { fine = w.fine; view = w.view ∙ adds_frame v c.args.place r ∙ ap (λ (x : View). with_held v x.held) (sym w.view) };
     }

@@ -6,6 +6,6 @@ returns g c =
     record {
       low = c.survey.ensures.low;
       is = λ h.
-          let ps = c.read-parents-parents.ensures in
-          tallied (g.S.Shelf.view c.args.shelf.now) (ps.is h) (ps.spread h) (c.longest-clause.ensures.is h) c.survey.ensures.is;
+          let ps = c.read_parents-parents.ensures in
+          tallied (g.S.Shelf.view c.args.shelf.now) (ps.is h) (ps.spread h) (c.longest_clause.ensures.is h) c.survey.ensures.is;
     }

@@ -6,8 +6,8 @@ use Rattle.shelf.proofs.Zeroing.{fresh_cleared, fresh_spare, fresh_length}
 use Rattle.rows.proofs.Making.{rows_fit, fresh-rows, made_kept}
 use Rattle.rows.proofs.RowShelf.cleared.Goals as goal
 
-pub slice-bounds-fill-end : goal.slice-bounds-fill-end
-slice-bounds-fill-end c = rows_fit (length c.args.words.now) (c.args.longest + 1) c.min-places.result (omega (arith, c.min-places.ensures))
+pub slice_bounds-fill-end : goal.slice_bounds-fill-end
+slice_bounds-fill-end c = rows_fit (length c.args.words.now) (c.args.longest + 1) c.min-places.result (omega (arith, c.min-places.ensures))
 
 pub returns : goal.returns
 returns c =

@@ -11,10 +11,10 @@ returns c =
     let k = c.args.k in
     let m = n + 2 - (k + 1) in
     let code = c.args.literal.code in
-    let mid = c.rotate-right.new.self in
+    let mid = c.rotate_right.new.self in
     let same : length (put_mid (k + 1) m row mid) ≡ length row = search (rules, places) in
     let long : length mid ≡ m = search (rules, places) in
-    let turned : (i : ℕ) → 1 ≤ i → i < m → get_or mid i 0 ≡ get_or (take m (drop (k + 1) row)) (i - 1) 0 = λ i h l. c.rotate-right.ensures.by_index.1 i 0 h (omega (arith, c.rotate-right.ensures.len)) in
+    let turned : (i : ℕ) → 1 ≤ i → i < m → get_or mid i 0 ≡ get_or (take m (drop (k + 1) row)) (i - 1) 0 = λ i h l. c.rotate_right.ensures.by_index.1 i 0 h (omega (arith, c.rotate_right.ensures.len)) in
     record {
       count = slip_count row mid n k code m refl c.requires.gap.room c.requires.gap.within refl same long turned;
       codes = slip_codes row mid n k code m refl c.requires.gap.room c.requires.gap.within refl same long turned ∙ sym c.requires.gap.goes;

@@ -8,5 +8,5 @@ loop-p-preserved g c h = let i = c.loop-p.invariant h in let w = c.wipe.ensures.
 pub returns : goal.returns
 returns g c h =
     let i = c.loop-p.invariant h in
-    let n = c.place-count-count.ensures.is h in
+    let n = c.place_count-count.ensures.is h in
     record { fine = i.0; view = freed_done i.1 (g.S.Shelf.sound _ i.0) (omega arith) }

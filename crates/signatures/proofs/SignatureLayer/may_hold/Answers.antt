@@ -19,7 +19,7 @@ returns g c =
     let place = c.args.place in
     let covered = c.if-not-covers.ensures in
     record {
-      bit = λ off. c.may-hold.ensures ∙ off;
+      bit = λ off. c.may_hold.ensures ∙ off;
       clause = λ _. covered.clause;
-      none = λ h off. not_held (g.S.Shelf.view s.below) s.signatures.bits place c.args.literal.code (g.S.Shelf.sound s.below h.below) h.signed (ltb-true place 4096 (sym covered.within)) (sym c.may-hold.ensures ∙ off);
+      none = λ h off. not_held (g.S.Shelf.view s.below) s.signatures.bits place c.args.literal.code (g.S.Shelf.sound s.below h.below) h.signed (ltb-true place 4096 (sym covered.within)) (sym c.may_hold.ensures ∙ off);
     }

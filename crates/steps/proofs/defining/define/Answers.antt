@@ -17,9 +17,9 @@ returns g c h n e passed =
     let v = g.S.Shelf.view a.shelf.now in
     let ls = codes a.literals.now in
     let P : ℕ → Type 0 = λ d. Definable v d ls → Placeable v a.to (defining d ls)
-    → Laid (g.S.Shelf.fine c.place-define.new.shelf) (g.S.Shelf.view c.place-define.new.shelf) (after_placing v a.to (defining d ls)) c.place-define.new.cells (laid a.to (alike Hard (kept (defining d ls))) a.ledger.now) in
+    → Laid (g.S.Shelf.fine c.place_define.new.shelf) (g.S.Shelf.view c.place_define.new.shelf) (after_placing v a.to (defining d ls)) c.place_define.new.cells (laid a.to (alike Hard (kept (defining d ls))) a.ledger.now) in
     let may = definable v n a.to ls passed in
-    let put = subst P e (c.place-define.ensures.did h) may.0 may.1 in
+    let put = subst P e (c.place_define.ensures.did h) may.0 may.1 in
     record {
       fine = put.fine;
       view = put.view;

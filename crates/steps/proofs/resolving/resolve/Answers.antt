@@ -14,10 +14,10 @@ returns g c h q =
     let a = cell_of k.figures r.weighed.left_i in
     let b = cell_of k.figures r.weighed.left_j in
     let rs = resolvents_at (g.S.Shelf.view c.args.shelf.now) c.args.i c.args.j c.args.variable r.with_i r.with_j in
-    let p = c.place-resolve.ensures.did h q in
+    let p = c.place_resolve.ensures.did h q in
     let s = c.settle.ensures p.fine in
     let t = c.settle-2.ensures s.fine in
-    let placed = ap (cells_of k) p.cells ∙ laid_alike (cell_of k.back) c.args.to c.row-cell.result (cell_of k.figures r.weighed.common) (kept rs) c.args.ledger.now c.row-cell.ensures.means in
+    let placed = ap (cells_of k) p.cells ∙ laid_alike (cell_of k.back) c.args.to c.row_cell.result (cell_of k.figures r.weighed.common) (kept rs) c.args.ledger.now c.row_cell.ensures.means in
     record {
       fine = t.fine;
       view = t.view ∙ ap (λ (v : View). freed_if (amounts_to_nothing k.scale.tiers b) v c.args.j) (s.view ∙ ap (λ (v : View). freed_if (amounts_to_nothing k.scale.tiers a) v c.args.i) p.view);

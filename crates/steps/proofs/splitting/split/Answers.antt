@@ -10,7 +10,7 @@ returns g c h n passed =
     let a = c.args in
     let v = g.S.Shelf.view a.shelf.now in
     record {
-      fine = (c.split-place.ensures.framed h).fine;
-      view = c.split-place.ensures.did h (splittable v n a.place a.variable a.to (g.S.Shelf.sound _ h) passed);
-      cells = c.write-cell.ensures.means ∙ ap (λ (z : Cell). set (cells_of k a.ledger.now) a.to z) c.read-cell-cell.ensures;
+      fine = (c.split_place.ensures.framed h).fine;
+      view = c.split_place.ensures.did h (splittable v n a.place a.variable a.to (g.S.Shelf.sound _ h) passed);
+      cells = c.write_cell.ensures.means ∙ ap (λ (z : Cell). set (cells_of k a.ledger.now) a.to z) c.read_cell-cell.ensures;
     }

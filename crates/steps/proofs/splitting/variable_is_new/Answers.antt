@@ -14,7 +14,7 @@ pub returns : goal.returns
 returns g c h =
     let v = g.S.Shelf.view c.args.shelf.now in
     let cs = clause v c.args.place in
-    let k = c.known-variables.ensures h in
+    let k = c.known_variables.ensures h in
     new_told v c.args.current c.args.place c.args.variable (omega arith) (omega arith)
     (ap (λ (z : ℕ). among z cs) (sym c.of.ensures) ∙ sym (c.holds.ensures h) ∙ c.if-holds.false)
     (c.holds-2.ensures h ∙ ap (λ (z : ℕ). among z cs) c.not.ensures)

@@ -9,8 +9,8 @@ use Rattle.bench.proofs.Softly.{empty_test, soft_stop, soft_unfit, soft_out, sof
 use Rattle.steps.proofs.Verdicts.{test_none, test_some}
 use Rattle.bench.proofs.case.Bench.ask_soft.Goals as goal
 
-pub returns-in-err-count : goal.returns-in-err-count
-returns-in-err-count g c =
+pub returns-in_err-count : goal.returns-in_err-count
+returns-in_err-count g c =
     let k = g.K.CostKind.kind in
     let s = state_of k c.args.self.now (g.S.Shelf.view c.args.shelf.now) c.args.ledger.now in
     let xs = c.args.figures.now in
@@ -18,7 +18,7 @@ returns-in-err-count g c =
     let p = err_from_is_err_and c.from-residual.result c.from-residual.ensures.1 in
     rw (p.1, p.2) (record {
       low = tt;
-      is = λ h. soft_stop k.scale s c.args.place xs cs _ _ (c.in-err-count.ensures.is h);
+      is = λ h. soft_stop k.scale s c.args.place xs cs _ _ (c.in_err-count.ensures.is h);
       accepted = λ h. tt;
     })
 
@@ -29,26 +29,26 @@ returns-in-None g c =
     let xs = c.args.figures.now in
     let cs = codes c.args.clause.now in
     let f = test_none (amount_fits k.scale s.bench.total xs) (record { amount = xs; total = plus s.bench.total xs }) c.in-None.ensures in
-    record { low = tt; is = λ h. soft_unfit k.scale s c.args.place xs cs (c.in-ok-count.ensures.is h) f; accepted = λ h. tt }
+    record { low = tt; is = λ h. soft_unfit k.scale s c.args.place xs cs (c.in_ok-count.ensures.is h) f; accepted = λ h. tt }
 
-pub returns-in-err-proved : goal.returns-in-err-proved
-returns-in-err-proved g c =
+pub returns-in_err-proved : goal.returns-in_err-proved
+returns-in_err-proved g c =
     let k = g.K.CostKind.kind in
     let s = state_of k c.args.self.now (g.S.Shelf.view c.args.shelf.now) c.args.ledger.now in
     let xs = c.args.figures.now in
     let cs = codes c.args.clause.now in
-    let p = err_from_is_err_and c.from-residual-in-err-proved.result c.from-residual-in-err-proved.ensures.1 in
+    let p = err_from_is_err_and c.from-residual-in_err-proved.result c.from-residual-in_err-proved.ensures.1 in
     let t = test_some (amount_fits k.scale s.bench.total xs) (record { amount = xs; total = plus s.bench.total xs }) _ c.in-Some.ensures in
     let e = eqb (length c.args.clause.now) 0 in
     rw (p.1, p.2) (record {
       low = tt;
       is = λ h.
-          soft_out k.scale s c.args.place xs cs (c.in-ok-count.ensures.is h) t.0 (k.figures c.in-Some.taken.0) e (ap (λ (y : Taken). y.amount) t.1) (empty_test c.args.clause.now) _ c.in-err-proved.ensures;
+          soft_out k.scale s c.args.place xs cs (c.in_ok-count.ensures.is h) t.0 (k.figures c.in-Some.taken.0) e (ap (λ (y : Taken). y.amount) t.1) (empty_test c.args.clause.now) _ c.in_err-proved.ensures;
       accepted = λ h. tt;
     })
 
-pub returns-in-ok-proved : goal.returns-in-ok-proved
-returns-in-ok-proved g c =
+pub returns-in_ok-proved : goal.returns-in_ok-proved
+returns-in_ok-proved g c =
     let k = g.K.CostKind.kind in
     let s = state_of k c.args.self.now (g.S.Shelf.view c.args.shelf.now) c.args.ledger.now in
     let xs = c.args.figures.now in
@@ -56,14 +56,14 @@ returns-in-ok-proved g c =
     let t = test_some (amount_fits k.scale s.bench.total xs) (record { amount = xs; total = plus s.bench.total xs }) _ c.in-Some.ensures in
     let e = eqb (length c.args.clause.now) 0 in
     record {
-      low = c.in-ok-count.ensures.low;
+      low = c.in_ok-count.ensures.low;
       is = λ h.
-          (soft_pass k.scale s c.args.place xs cs (c.in-ok-count.ensures.is h) t.0 (k.figures c.in-Some.taken.0) e (ap (λ (y : Taken). y.amount) t.1) (empty_test c.args.clause.now) _ c.in-ok-proved.ensures).0;
+          (soft_pass k.scale s c.args.place xs cs (c.in_ok-count.ensures.is h) t.0 (k.figures c.in-Some.taken.0) e (ap (λ (y : Taken). y.amount) t.1) (empty_test c.args.clause.now) _ c.in_ok-proved.ensures).0;
       accepted = λ h. record {
-        copied = c.in-ok-count.ensures.copied h;
+        copied = c.in_ok-count.ensures.copied h;
         amount-is = ap (λ (y : Taken). y.amount) t.1;
         total-is = ap (λ (y : Taken). y.total) t.1;
         proved_is =
-            (soft_pass k.scale s c.args.place xs cs (c.in-ok-count.ensures.is h) t.0 (k.figures c.in-Some.taken.0) e (ap (λ (y : Taken). y.amount) t.1) (empty_test c.args.clause.now) _ c.in-ok-proved.ensures).1;
+            (soft_pass k.scale s c.args.place xs cs (c.in_ok-count.ensures.is h) t.0 (k.figures c.in-Some.taken.0) e (ap (λ (y : Taken). y.amount) t.1) (empty_test c.args.clause.now) _ c.in_ok-proved.ensures).1;
       };
     }

@@ -6,15 +6,15 @@ use Rattle.bench.specs.Meaning.{state_of}
 use Rattle.bench.proofs.Doing.{refusing, granting}
 use Rattle.bench.proofs.case.Bench.cheapest.Goals as goal
 
-pub returns-in-err-ask-cheapest : goal.returns-in-err-ask-cheapest
+pub returns-in_err-ask_cheapest : goal.returns-in_err-ask_cheapest
 unfolding cheapest_does
-returns-in-err-ask-cheapest g c =
+returns-in_err-ask_cheapest g c =
     let k = g.K.CostKind.kind in
     let s = state_of k c.args.self.now (g.S.Shelf.view c.args.shelf.now) c.args.ledger.now in
     let o : Outcome = record { answer = cheapest_at s.bench.proved; after = ended s } in
     let p = err_from_is_err_and c.from-residual.result c.from-residual.ensures.1 in
     rw (p.1, p.2) (record {
-      did = λ h. refusing h s (cheapest_questions s) o c.in-err-ask-cheapest.field-0.0 (c.in-err-ask-cheapest.ensures h);
+      did = λ h. refusing h s (cheapest_questions s) o c.in_err-ask_cheapest.field-0.0 (c.in_err-ask_cheapest.ensures h);
       refused = refl;
     })
 
@@ -24,4 +24,4 @@ returns g c =
     let k = g.K.CostKind.kind in
     let s = state_of k c.args.self.now (g.S.Shelf.view c.args.shelf.now) c.args.ledger.now in
     let o : Outcome = record { answer = cheapest_at s.bench.proved; after = ended s } in
-    record { did = λ h. granting h s (cheapest_questions s) o (c.in-ok-ask-cheapest.ensures h) refl refl; refused = tt }
+    record { did = λ h. granting h s (cheapest_questions s) o (c.in_ok-ask_cheapest.ensures h) refl refl; refused = tt }

@@ -8,27 +8,27 @@ use Rattle.bench.proofs.Stepping.{refused_first, refused_then, step_granted, def
 use Rattle.bench.specs.Meaning.{state_of}
 use Rattle.bench.proofs.case.Bench.define.Goals as goal
 
-pub returns-in-err-ask-step : goal.returns-in-err-ask-step
+pub returns-in_err-ask_step : goal.returns-in_err-ask_step
 unfolding define_does
-returns-in-err-ask-step g c =
+returns-in_err-ask_step g c =
     let k = g.K.CostKind.kind in
     let v = g.S.Shelf.view c.args.shelf.now in
     let s = state_of k c.args.self.now v c.args.ledger.now in
     let to = c.args.to in
     let ls = codes c.args.literals.now in
     let p = err_from_is_err_and c.from-residual.result c.from-residual.ensures.1 in
-    rw (p.1, p.2) (record { did = λ h. refused_first h s (define_asks v s.bench.current to ls) (worked (define_done s to ls)) c.in-err-ask-step.field-0.0 (c.in-err-ask-step.ensures h); refused = (refl, refl, refl) })
+    rw (p.1, p.2) (record { did = λ h. refused_first h s (define_asks v s.bench.current to ls) (worked (define_done s to ls)) c.in_err-ask_step.field-0.0 (c.in_err-ask_step.ensures h); refused = (refl, refl, refl) })
 
-pub returns-in-err-next : goal.returns-in-err-next
+pub returns-in_err-next : goal.returns-in_err-next
 unfolding define_does
-returns-in-err-next g c =
+returns-in_err-next g c =
     let k = g.K.CostKind.kind in
     let v = g.S.Shelf.view c.args.shelf.now in
     let s = state_of k c.args.self.now v c.args.ledger.now in
     let to = c.args.to in
     let ls = codes c.args.literals.now in
-    let p = err_from_is_err_and c.from-residual-in-err-next.result c.from-residual-in-err-next.ensures.1 in
-    rw (p.1, p.2) (record { did = λ h. refused_then h s (define_asks v s.bench.current to ls) (worked (define_done s to ls)) (c.in-ok-ask-step.ensures h) c.in-err-next.field-0.0 (c.in-err-next.ensures.is h); refused = (refl, refl, refl) })
+    let p = err_from_is_err_and c.from-residual-in_err-next.result c.from-residual-in_err-next.ensures.1 in
+    rw (p.1, p.2) (record { did = λ h. refused_then h s (define_asks v s.bench.current to ls) (worked (define_done s to ls)) (c.in_ok-ask_step.ensures h) c.in_err-next.field-0.0 (c.in_err-next.ensures.is h); refused = (refl, refl, refl) })
 
 pub returns : goal.returns
 unfolding define_does
@@ -40,9 +40,9 @@ returns g c =
     let ls = codes c.args.literals.now in
     record {
       did = λ h.
-          let passed = c.in-ok-next.ensures.is h in
-          let next = c.in-ok-next.ensures.next in
+          let passed = c.in_ok-next.ensures.is h in
+          let next = c.in_ok-next.ensures.next in
           let put = c.define.ensures h s.bench.current next passed in
-          step_granted put.fine s (define_asks v s.bench.current to ls) (worked (define_done s to ls)) (c.in-ok-ask-step.ensures h) passed (same_state (defined_case s.bench next) put.view put.cells);
+          step_granted put.fine s (define_asks v s.bench.current to ls) (worked (define_done s to ls)) (c.in_ok-ask_step.ensures h) passed (same_state (defined_case s.bench next) put.view put.cells);
       refused = tt;
     }

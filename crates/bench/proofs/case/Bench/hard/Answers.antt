@@ -13,15 +13,15 @@ use Rattle.bench.proofs.Clausing.{none_given, some_given, clause_passed, may_wri
 use Rattle.bench.proofs.Doing.{refusing, granting, same_state}
 use Rattle.bench.proofs.case.Bench.hard.Goals as goal
 
-pub returns-in-err-count : goal.returns-in-err-count
+pub returns-in_err-count : goal.returns-in_err-count
 unfolding hard_does
-returns-in-err-count g c =
+returns-in_err-count g c =
     let k = g.K.CostKind.kind in
     let s = state_of k c.args.self.now (g.S.Shelf.view c.args.shelf.now) c.args.ledger.now in
     let cs = codes c.args.clause.now in
     let p = err_from_is_err_and c.from-residual.result c.from-residual.ensures.1 in
     rw (p.1, p.2) (record {
-      did = λ h. refusing h s (clause_questions s c.args.place cs) (grants (hard_done s c.args.place cs)) c.in-err-count.field-0.0 (c.in-err-count.ensures.is h);
+      did = λ h. refusing h s (clause_questions s c.args.place cs) (grants (hard_done s c.args.place cs)) c.in_err-count.field-0.0 (c.in_err-count.ensures.is h);
       refused = (refl, refl, refl);
     })
 
@@ -35,7 +35,7 @@ returns-then-clause-eq0 g c =
     let n = none_given c.args.clause.now c.if-clause-eq0.true in
     record {
       did = λ h.
-          granting h s (clause_questions s p cs) (grants (hard_done s p cs)) (c.in-ok-count.ensures.is h) refl
+          granting h s (clause_questions s p cs) (grants (hard_done s p cs)) (c.in_ok-count.ensures.is h) refl
           (ap (λ (b : Bool). cond b (with_bench s (marked s.bench)) (placed s p cs hard)) (sym n));
       refused = tt;
     }
@@ -52,12 +52,12 @@ returns-else-clause-eq0 g c =
     let n = some_given c.args.clause.now c.if-clause-eq0.false in
     record {
       did = λ h.
-          let passed = c.in-ok-count.ensures.is h in
+          let passed = c.in_ok-count.ensures.is h in
           let q = clause_passed s p cs passes passed in
           let F : List ℕ → Type 0 = λ xs.
           Writable v p xs
-          → Laid (g.S.Shelf.fine c.put-clause.new.shelf) (g.S.Shelf.view c.put-clause.new.shelf) (with_held v (set v.held p xs)) (cells_of k c.put-clause.new.ledger) (set l p hard) in
-          let put = subst F (c.in-ok-count.ensures.copied h) (c.put-clause.ensures h) (may_write s p cs q.0 q.1 n) in
+          → Laid (g.S.Shelf.fine c.put_clause.new.shelf) (g.S.Shelf.view c.put_clause.new.shelf) (with_held v (set v.held p xs)) (cells_of k c.put_clause.new.ledger) (set l p hard) in
+          let put = subst F (c.in_ok-count.ensures.copied h) (c.put_clause.ensures h) (may_write s p cs q.0 q.1 n) in
           granting put.fine s (clause_questions s p cs) (grants (hard_done s p cs)) passed refl
           (same_state refl put.view put.cells ∙ ap (λ (b : Bool). cond b (with_bench s (marked s.bench)) (placed s p cs hard)) (sym n));
       refused = tt;

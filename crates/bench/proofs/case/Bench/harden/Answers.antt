@@ -6,25 +6,25 @@ use Rattle.bench.proofs.Stepping.{refused_first, refused_then, step_granted}
 use Rattle.bench.specs.Meaning.{state_of}
 use Rattle.bench.proofs.case.Bench.harden.Goals as goal
 
-pub returns-in-err-ask-step : goal.returns-in-err-ask-step
+pub returns-in_err-ask_step : goal.returns-in_err-ask_step
 unfolding harden_does
-returns-in-err-ask-step g c =
+returns-in_err-ask_step g c =
     let k = g.K.CostKind.kind in
     let v = g.S.Shelf.view c.args.shelf.now in
     let s = state_of k c.args.self.now v c.args.ledger.now in
     let i = c.args.i in
     let p = err_from_is_err_and c.from-residual.result c.from-residual.ensures.1 in
-    rw (p.1, p.2) (record { did = λ h. refused_first h s (harden_asks v (cell_in k.scale s i) s.bench.proved s.bench.shown i) (worked (harden_done s i)) c.in-err-ask-step.field-0.0 (c.in-err-ask-step.ensures h); refused = (refl, refl) })
+    rw (p.1, p.2) (record { did = λ h. refused_first h s (harden_asks v (cell_in k.scale s i) s.bench.proved s.bench.shown i) (worked (harden_done s i)) c.in_err-ask_step.field-0.0 (c.in_err-ask_step.ensures h); refused = (refl, refl) })
 
-pub returns-in-err-ask-harden : goal.returns-in-err-ask-harden
+pub returns-in_err-ask_harden : goal.returns-in_err-ask_harden
 unfolding harden_does
-returns-in-err-ask-harden g c =
+returns-in_err-ask_harden g c =
     let k = g.K.CostKind.kind in
     let v = g.S.Shelf.view c.args.shelf.now in
     let s = state_of k c.args.self.now v c.args.ledger.now in
     let i = c.args.i in
-    let p = err_from_is_err_and c.from-residual-in-err-ask-harden.result c.from-residual-in-err-ask-harden.ensures.1 in
-    rw (p.1, p.2) (record { did = λ h. refused_then h s (harden_asks v (cell_in k.scale s i) s.bench.proved s.bench.shown i) (worked (harden_done s i)) (c.in-ok-ask-step.ensures h) c.in-err-ask-harden.field-0.0 (c.in-err-ask-harden.ensures h); refused = (refl, refl) })
+    let p = err_from_is_err_and c.from-residual-in_err-ask_harden.result c.from-residual-in_err-ask_harden.ensures.1 in
+    rw (p.1, p.2) (record { did = λ h. refused_then h s (harden_asks v (cell_in k.scale s i) s.bench.proved s.bench.shown i) (worked (harden_done s i)) (c.in_ok-ask_step.ensures h) c.in_err-ask_harden.field-0.0 (c.in_err-ask_harden.ensures h); refused = (refl, refl) })
 
 pub returns : goal.returns
 unfolding harden_does
@@ -35,6 +35,6 @@ returns g c =
     let i = c.args.i in
     record {
       did = λ h.
-          step_granted h s (harden_asks v (cell_in k.scale s i) s.bench.proved s.bench.shown i) (worked (harden_done s i)) (c.in-ok-ask-step.ensures h) (c.in-ok-ask-harden.ensures h) (same_state refl refl c.write-cell.ensures.means);
+          step_granted h s (harden_asks v (cell_in k.scale s i) s.bench.proved s.bench.shown i) (worked (harden_done s i)) (c.in_ok-ask_step.ensures h) (c.in_ok-ask_harden.ensures h) (same_state refl refl c.write_cell.ensures.means);
       refused = tt;
     }

@@ -6,14 +6,14 @@ use Rattle.bench.specs.Meaning.{state_of}
 use Rattle.bench.proofs.Doing.{refusing, granting}
 use Rattle.bench.proofs.case.Bench.impossible.Goals as goal
 
-pub returns-in-err-ask-impossible : goal.returns-in-err-ask-impossible
+pub returns-in_err-ask_impossible : goal.returns-in_err-ask_impossible
 unfolding impossible_does
-returns-in-err-ask-impossible g c =
+returns-in_err-ask_impossible g c =
     let k = g.K.CostKind.kind in
     let s = state_of k c.args.self.now (g.S.Shelf.view c.args.shelf.now) c.args.ledger.now in
     let p = err_from_is_err_and c.from-residual.result c.from-residual.ensures.1 in
     rw (p.1, p.2) (record {
-      did = λ h. refusing h s (impossible_questions s) (grants (ended s)) c.in-err-ask-impossible.field-0.0 (c.in-err-ask-impossible.ensures h);
+      did = λ h. refusing h s (impossible_questions s) (grants (ended s)) c.in_err-ask_impossible.field-0.0 (c.in_err-ask_impossible.ensures h);
       refused = refl;
     })
 
@@ -22,4 +22,4 @@ unfolding impossible_does
 returns g c =
     let k = g.K.CostKind.kind in
     let s = state_of k c.args.self.now (g.S.Shelf.view c.args.shelf.now) c.args.ledger.now in
-    record { did = λ h. granting h s (impossible_questions s) (grants (ended s)) (c.in-ok-ask-impossible.ensures h) refl refl; refused = tt }
+    record { did = λ h. granting h s (impossible_questions s) (grants (ended s)) (c.in_ok-ask_impossible.ensures h) refl refl; refused = tt }

@@ -10,14 +10,14 @@ use Rattle.bench.specs.Meaning.{case_of, state_of}
 use Rattle.bench.proofs.Doing.{refusing, granting, opened}
 use Rattle.bench.proofs.case.Bench.open.Goals as goal
 
-pub returns-in-err-ask-open : goal.returns-in-err-ask-open
+pub returns-in_err-ask_open : goal.returns-in_err-ask_open
 unfolding open_does
-returns-in-err-ask-open g c =
+returns-in_err-ask_open g c =
     let k = g.K.CostKind.kind in
     let s = state_of k c.args.self.now (g.S.Shelf.view c.args.shelf.now) c.args.ledger.now in
     let p = err_from_is_err_and c.from-residual.result c.from-residual.ensures.1 in
     rw (p.1, p.2) (record {
-      did = λ h. refusing h s (open_questions s c.args.n) (grants (open_done k.scale s c.args.n)) c.in-err-ask-open.field-0.0 (c.in-err-ask-open.ensures h);
+      did = λ h. refusing h s (open_questions s c.args.n) (grants (open_done k.scale s c.args.n)) c.in_err-ask_open.field-0.0 (c.in_err-ask_open.ensures h);
       refused = (refl, refl, refl);
       cleared = tt;
     })
@@ -29,8 +29,8 @@ returns g c =
     let s = state_of k c.args.self.now (g.S.Shelf.view c.args.shelf.now) c.args.ledger.now in
     record {
       did = λ h.
-          granting (c.wipe-all.ensures h).fine s (open_questions s c.args.n) (grants (open_done k.scale s c.args.n)) (c.in-ok-ask-open.ensures h) refl
-          (opened c.args.n c.nothing-nothing.ensures (c.wipe-all.ensures h).view c.clear.ensures.means);
+          granting (c.wipe_all.ensures h).fine s (open_questions s c.args.n) (grants (open_done k.scale s c.args.n)) (c.in_ok-ask_open.ensures h) refl
+          (opened c.args.n c.nothing-nothing.ensures (c.wipe_all.ensures h).view c.clear.ensures.means);
       refused = tt;
       cleared = c.clear.ensures.is;
     }

@@ -10,9 +10,9 @@ use Rattle.bench.proofs.Stepping.{refused_first, refused_then, step_granted, res
 use Rattle.bench.specs.Meaning.{state_of}
 use Rattle.bench.proofs.case.Bench.resolve.Goals as goal
 
-pub returns-in-err-ask-step : goal.returns-in-err-ask-step
+pub returns-in_err-ask_step : goal.returns-in_err-ask_step
 unfolding resolve_does
-returns-in-err-ask-step g c =
+returns-in_err-ask_step g c =
     let k = g.K.CostKind.kind in
     let v = g.S.Shelf.view c.args.shelf.now in
     let s = state_of k c.args.self.now v c.args.ledger.now in
@@ -21,11 +21,11 @@ returns-in-err-ask-step g c =
     let x = c.args.variable in
     let to = c.args.to in
     let p = err_from_is_err_and c.from-residual.result c.from-residual.ensures.1 in
-    rw (p.1, p.2) (record { did = λ h. refused_first h s (resolve_asks k.scale v (cell_in k.scale s i) (cell_in k.scale s j) s.bench.proved i j x to) (worked (resolve_done k.scale s i j x to)) c.in-err-ask-step.field-0.0 (c.in-err-ask-step.ensures h); refused = (refl, refl, refl) })
+    rw (p.1, p.2) (record { did = λ h. refused_first h s (resolve_asks k.scale v (cell_in k.scale s i) (cell_in k.scale s j) s.bench.proved i j x to) (worked (resolve_done k.scale s i j x to)) c.in_err-ask_step.field-0.0 (c.in_err-ask_step.ensures h); refused = (refl, refl, refl) })
 
-pub returns-in-err-r : goal.returns-in-err-r
+pub returns-in_err-r : goal.returns-in_err-r
 unfolding resolve_does
-returns-in-err-r g c =
+returns-in_err-r g c =
     let k = g.K.CostKind.kind in
     let v = g.S.Shelf.view c.args.shelf.now in
     let s = state_of k c.args.self.now v c.args.ledger.now in
@@ -33,8 +33,8 @@ returns-in-err-r g c =
     let j = c.args.j in
     let x = c.args.variable in
     let to = c.args.to in
-    let p = err_from_is_err_and c.from-residual-in-err-r.result c.from-residual-in-err-r.ensures.1 in
-    rw (p.1, p.2) (record { did = λ h. refused_then h s (resolve_asks k.scale v (cell_in k.scale s i) (cell_in k.scale s j) s.bench.proved i j x to) (worked (resolve_done k.scale s i j x to)) (c.in-ok-ask-step.ensures h) c.in-err-r.field-0.0 (c.in-err-r.ensures.is h); refused = (refl, refl, refl) })
+    let p = err_from_is_err_and c.from-residual-in_err-r.result c.from-residual-in_err-r.ensures.1 in
+    rw (p.1, p.2) (record { did = λ h. refused_then h s (resolve_asks k.scale v (cell_in k.scale s i) (cell_in k.scale s j) s.bench.proved i j x to) (worked (resolve_done k.scale s i j x to)) (c.in_ok-ask_step.ensures h) c.in_err-r.field-0.0 (c.in_err-r.ensures.is h); refused = (refl, refl, refl) })
 
 pub returns : goal.returns
 unfolding resolve_does
@@ -48,16 +48,16 @@ returns g c =
     let to = c.args.to in
     record {
       did = λ h.
-          let r = c.in-ok-r.r in
-          let passed = c.in-ok-r.ensures.is h in
-          let res = c.in-ok-r.ensures.resolution h in
+          let r = c.in_ok-r.r in
+          let passed = c.in_ok-r.ensures.is h in
+          let res = c.in_ok-r.ensures.resolution h in
           let P : List (List ℕ) → Type 0 = λ rs. Placeable v to rs in
           let may = subst P (sym (same_results v i j x res.with_i_is res.with_j_is)) (placeable k.scale v (cell_in k.scale s i) (cell_in k.scale s j) s.bench.proved i j x to passed) in
           let put = c.resolve.ensures h may in
-          step_granted put.fine s (resolve_asks k.scale v (cell_in k.scale s i) (cell_in k.scale s j) s.bench.proved i j x to) (worked (resolve_done k.scale s i j x to)) (c.in-ok-ask-step.ensures h) passed
-          (resolved_state k.scale s i j x to (dues_of k.figures r.weighed) r.with_i r.with_j c.mark-after-mark.result _ _
+          step_granted put.fine s (resolve_asks k.scale v (cell_in k.scale s i) (cell_in k.scale s j) s.bench.proved i j x to) (worked (resolve_done k.scale s i j x to)) (c.in_ok-ask_step.ensures h) passed
+          (resolved_state k.scale s i j x to (dues_of k.figures r.weighed) r.with_i r.with_j c.mark_after-mark.result _ _
           res.dues_are res.with_i_is res.with_j_is
-          (c.mark-after-mark.ensures ∙ ap (λ (e : Bool). s.bench.impossible || (e && is_hard (cell_of k.figures r.weighed.common))) res.empty-is)
+          (c.mark_after-mark.ensures ∙ ap (λ (e : Bool). s.bench.impossible || (e && is_hard (cell_of k.figures r.weighed.common))) res.empty-is)
           put.view put.cells);
       refused = tt;
     }

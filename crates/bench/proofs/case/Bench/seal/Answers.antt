@@ -7,13 +7,13 @@ use Rattle.bench.specs.Meaning.{state_of}
 use Rattle.bench.proofs.Doing.{refusing, granting}
 use Rattle.bench.proofs.case.Bench.seal.Goals as goal
 
-pub returns-in-err-ask-seal : goal.returns-in-err-ask-seal
+pub returns-in_err-ask_seal : goal.returns-in_err-ask_seal
 unfolding seal_does
-returns-in-err-ask-seal g c =
+returns-in_err-ask_seal g c =
     let s = state_of g.K.CostKind.kind c.args.self.now (g.S.Shelf.view c.args.shelf.now) c.args.ledger.now in
     let p = err_from_is_err_and c.from-residual.result c.from-residual.ensures.1 in
     rw (p.1, p.2) (record {
-      did = λ h. refusing h s (seal_questions s) (grants (with_bench s (with_phase s.bench sealed))) c.in-err-ask-seal.field-0.0 (c.in-err-ask-seal.ensures h);
+      did = λ h. refusing h s (seal_questions s) (grants (with_bench s (with_phase s.bench sealed))) c.in_err-ask_seal.field-0.0 (c.in_err-ask_seal.ensures h);
       refused = refl;
     })
 
@@ -22,6 +22,6 @@ unfolding seal_does
 returns g c =
     let s = state_of g.K.CostKind.kind c.args.self.now (g.S.Shelf.view c.args.shelf.now) c.args.ledger.now in
     record {
-      did = λ h. granting h s (seal_questions s) (grants (with_bench s (with_phase s.bench sealed))) (c.in-ok-ask-seal.ensures h) refl refl;
+      did = λ h. granting h s (seal_questions s) (grants (with_bench s (with_phase s.bench sealed))) (c.in_ok-ask_seal.ensures h) refl refl;
       refused = tt;
     }

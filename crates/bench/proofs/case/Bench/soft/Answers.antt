@@ -16,16 +16,16 @@ use Rattle.bench.proofs.Doing.{refusing, granting, same_state}
 use Rattle.bench.proofs.Softly.{soft_sums}
 use Rattle.bench.proofs.case.Bench.soft.Goals as goal
 
-pub returns-in-err-accepted : goal.returns-in-err-accepted
+pub returns-in_err-accepted : goal.returns-in_err-accepted
 unfolding soft_does
-returns-in-err-accepted g c =
+returns-in_err-accepted g c =
     let k = g.K.CostKind.kind in
     let s = state_of k c.args.self.now (g.S.Shelf.view c.args.shelf.now) c.args.ledger.now in
     let xs = c.args.figures.now in
     let cs = codes c.args.clause.now in
     let p = err_from_is_err_and c.from-residual.result c.from-residual.ensures.1 in
     rw (p.1, p.2) (record {
-      did = λ h. refusing h s (soft_questions k.scale s c.args.place xs cs) (grants (soft_done s c.args.place xs cs)) c.in-err-accepted.field-0.0 (c.in-err-accepted.ensures.is h);
+      did = λ h. refusing h s (soft_questions k.scale s c.args.place xs cs) (grants (soft_done s c.args.place xs cs)) c.in_err-accepted.field-0.0 (c.in_err-accepted.ensures.is h);
       refused = (refl, refl, refl);
     })
 
@@ -39,18 +39,18 @@ returns-then-clause-ne0 g c =
     let xs = c.args.figures.now in
     let cs = codes c.args.clause.now in
     let p = c.args.place in
-    let a = c.in-ok-accepted.accepted in
+    let a = c.in_ok-accepted.accepted in
     let given = with_bench s (with_sums s.bench (plus s.bench.total xs) (paid (none cs) (soft xs) s.bench.proved)) in
     let n = some_given c.args.clause.now c.if-clause-ne0.true in
     record {
       did = λ h.
-          let passed = c.in-ok-accepted.ensures.is h in
-          let took = c.in-ok-accepted.ensures.accepted h in
+          let passed = c.in_ok-accepted.ensures.is h in
+          let took = c.in_ok-accepted.ensures.accepted h in
           let q = clause_passed s p cs _ passed in
           let F : List ℕ → Type 0 = λ ys.
           Writable v p ys
-          → Laid (g.S.Shelf.fine c.put-clause.new.shelf) (g.S.Shelf.view c.put-clause.new.shelf) (with_held v (set v.held p ys)) (cells_of k c.put-clause.new.ledger) (set l p (soft (k.figures a.amount))) in
-          let put = subst F took.copied (c.put-clause.ensures h) (may_write s p cs q.0 q.1 n) in
+          → Laid (g.S.Shelf.fine c.put_clause.new.shelf) (g.S.Shelf.view c.put_clause.new.shelf) (with_held v (set v.held p ys)) (cells_of k c.put_clause.new.ledger) (set l p (soft (k.figures a.amount))) in
+          let put = subst F took.copied (c.put_clause.ensures h) (may_write s p cs q.0 q.1 n) in
           granting put.fine s (soft_questions k.scale s p xs cs) (grants (soft_done s p xs cs)) passed refl
           (same_state (soft_sums s.bench xs (k.figures a.total) (k.figures a.proved) cs took.total-is took.proved_is) put.view (put.cells ∙ ap (λ (y : List ℤ). set l p (soft y)) took.amount-is)
           ∙ ap (λ (b : Bool). cond b given (placed given p cs (soft xs))) (sym n));
@@ -67,13 +67,13 @@ returns-else-clause-ne0 g c =
     let xs = c.args.figures.now in
     let cs = codes c.args.clause.now in
     let p = c.args.place in
-    let a = c.in-ok-accepted.accepted in
+    let a = c.in_ok-accepted.accepted in
     let given = with_bench s (with_sums s.bench (plus s.bench.total xs) (paid (none cs) (soft xs) s.bench.proved)) in
     let n = none_given c.args.clause.now c.if-clause-ne0.false in
     record {
       did = λ h.
-          let passed = c.in-ok-accepted.ensures.is h in
-          let took = c.in-ok-accepted.ensures.accepted h in
+          let passed = c.in_ok-accepted.ensures.is h in
+          let took = c.in_ok-accepted.ensures.accepted h in
           granting h s (soft_questions k.scale s p xs cs) (grants (soft_done s p xs cs)) passed refl
           (same_state (soft_sums s.bench xs (k.figures a.total) (k.figures a.proved) cs took.total-is took.proved_is) refl refl
           ∙ ap (λ (b : Bool). cond b given (placed given p cs (soft xs))) (sym n));

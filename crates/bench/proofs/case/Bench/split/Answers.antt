@@ -6,9 +6,9 @@ use Rattle.bench.proofs.Stepping.{refused_first, refused_then, step_granted}
 use Rattle.bench.specs.Meaning.{state_of}
 use Rattle.bench.proofs.case.Bench.split.Goals as goal
 
-pub returns-in-err-ask-step : goal.returns-in-err-ask-step
+pub returns-in_err-ask_step : goal.returns-in_err-ask_step
 unfolding split_does
-returns-in-err-ask-step g c =
+returns-in_err-ask_step g c =
     let k = g.K.CostKind.kind in
     let v = g.S.Shelf.view c.args.shelf.now in
     let s = state_of k c.args.self.now v c.args.ledger.now in
@@ -16,19 +16,19 @@ returns-in-err-ask-step g c =
     let x = c.args.variable in
     let to = c.args.to in
     let p = err_from_is_err_and c.from-residual.result c.from-residual.ensures.1 in
-    rw (p.1, p.2) (record { did = λ h. refused_first h s (split_asks v s.bench.current at x to) (worked (split_done k.scale s at x to)) c.in-err-ask-step.field-0.0 (c.in-err-ask-step.ensures h); refused = (refl, refl, refl) })
+    rw (p.1, p.2) (record { did = λ h. refused_first h s (split_asks v s.bench.current at x to) (worked (split_done k.scale s at x to)) c.in_err-ask_step.field-0.0 (c.in_err-ask_step.ensures h); refused = (refl, refl, refl) })
 
-pub returns-in-err-ask-split : goal.returns-in-err-ask-split
+pub returns-in_err-ask_split : goal.returns-in_err-ask_split
 unfolding split_does
-returns-in-err-ask-split g c =
+returns-in_err-ask_split g c =
     let k = g.K.CostKind.kind in
     let v = g.S.Shelf.view c.args.shelf.now in
     let s = state_of k c.args.self.now v c.args.ledger.now in
     let at = c.args.place in
     let x = c.args.variable in
     let to = c.args.to in
-    let p = err_from_is_err_and c.from-residual-in-err-ask-split.result c.from-residual-in-err-ask-split.ensures.1 in
-    rw (p.1, p.2) (record { did = λ h. refused_then h s (split_asks v s.bench.current at x to) (worked (split_done k.scale s at x to)) (c.in-ok-ask-step.ensures h) c.in-err-ask-split.field-0.0 (c.in-err-ask-split.ensures h); refused = (refl, refl, refl) })
+    let p = err_from_is_err_and c.from-residual-in_err-ask_split.result c.from-residual-in_err-ask_split.ensures.1 in
+    rw (p.1, p.2) (record { did = λ h. refused_then h s (split_asks v s.bench.current at x to) (worked (split_done k.scale s at x to)) (c.in_ok-ask_step.ensures h) c.in_err-ask_split.field-0.0 (c.in_err-ask_split.ensures h); refused = (refl, refl, refl) })
 
 pub returns : goal.returns
 unfolding split_does
@@ -41,8 +41,8 @@ returns g c =
     let to = c.args.to in
     record {
       did = λ h.
-          let passed = c.in-ok-ask-split.ensures h in
+          let passed = c.in_ok-ask_split.ensures h in
           let put = c.split.ensures h s.bench.current passed in
-          step_granted put.fine s (split_asks v s.bench.current at x to) (worked (split_done k.scale s at x to)) (c.in-ok-ask-step.ensures h) passed (same_state refl put.view put.cells);
+          step_granted put.fine s (split_asks v s.bench.current at x to) (worked (split_done k.scale s at x to)) (c.in_ok-ask_step.ensures h) passed (same_state refl put.view put.cells);
       refused = tt;
     }

@@ -5,13 +5,13 @@ use Rattle.rules.specs.Clauses.{rises}
 use Rattle.bench.proofs.Clausing.{copied, too_long, not_rising, fitting}
 use Rattle.bench.proofs.case.asking.take_clause.Goals as goal
 
-pub returns-then-clause-longest-clause : goal.returns-then-clause-longest-clause
-returns-then-clause-longest-clause g c =
+pub returns-then-clause-longest_clause : goal.returns-then-clause-longest_clause
+returns-then-clause-longest_clause g c =
     record {
       low = tt;
       is = λ h.
-          let l = c.longest-clause.ensures.is h in
-          too_long c.args.n (g.S.Shelf.view c.args.shelf.now) c.args.clause.now (omega (arith, c.if-clause-longest-clause.true));
+          let l = c.longest_clause.ensures.is h in
+          too_long c.args.n (g.S.Shelf.view c.args.shelf.now) c.args.clause.now (omega (arith, c.if-clause-longest_clause.true));
     }
 
 pub returns-then-not-literals_rise : goal.returns-then-not-literals_rise
@@ -20,19 +20,19 @@ returns-then-not-literals_rise g c =
       low = tt;
       is = λ h.
           let ls = codes c.args.clause.now in
-          not_rising c.args.n (g.S.Shelf.view c.args.shelf.now) ls (sym c.if-not-literals_rise.true ∙ c.literals_rise.ensures ∙ ap (λ (i : ℕ). rises i 0 ls) (c.known-variables.ensures h));
+          not_rising c.args.n (g.S.Shelf.view c.args.shelf.now) ls (sym c.if-not-literals_rise.true ∙ c.literals_rise.ensures ∙ ap (λ (i : ℕ). rises i 0 ls) (c.known_variables.ensures h));
     }
 
 pub returns : goal.returns
 returns g c =
     record {
-      low = omega (arith, c.copy-codes.ensures.count);
+      low = omega (arith, c.copy_codes.ensures.count);
       is = λ h.
           let v = g.S.Shelf.view c.args.shelf.now in
           let ls = c.args.clause.now in
-          let l = c.longest-clause.ensures.is h in
-          let low = c.longest-clause.ensures.low in
-          let w = copied ls c.copy-codes.result c.longest-clause.result c.copy-codes.new.out c.copy-codes.ensures.count c.copy-codes.ensures.is c.if-clause-longest-clause.false low in
-          let m : length (codes c.args.clause.now) ≤ (g.S.Shelf.view c.args.shelf.now).longest = simp codes_length (omega (arith, c.if-clause-longest-clause.false)) in
-          fitting c.args.n v (codes ls) _ (sym c.if-not-literals_rise.false ∙ c.literals_rise.ensures ∙ ap (λ (i : ℕ). rises i 0 (codes ls)) (c.known-variables.ensures h)) m w;
+          let l = c.longest_clause.ensures.is h in
+          let low = c.longest_clause.ensures.low in
+          let w = copied ls c.copy_codes.result c.longest_clause.result c.copy_codes.new.out c.copy_codes.ensures.count c.copy_codes.ensures.is c.if-clause-longest_clause.false low in
+          let m : length (codes c.args.clause.now) ≤ (g.S.Shelf.view c.args.shelf.now).longest = simp codes_length (omega (arith, c.if-clause-longest_clause.false)) in
+          fitting c.args.n v (codes ls) _ (sym c.if-not-literals_rise.false ∙ c.literals_rise.ensures ∙ ap (λ (i : ℕ). rises i 0 (codes ls)) (c.known_variables.ensures h)) m w;
     }

@@ -7,18 +7,18 @@ use Rattle.masks.proofs.pair.Pair.literal.Goals as goal
 
 pub returns-then-left-eq0 : goal.returns-then-left-eq0
 returns-then-left-eq0 c apart =
-    code_past c.args.self.literals c.args.self.opposites c.args.k c.without-lowest-left.result c.without-lowest-left.ensures apart c.if-left-eq0.true
+    code_past c.args.self.literals c.args.self.opposites c.args.k c.without_lowest-left.result c.without_lowest-left.ensures apart c.if-left-eq0.true
 
 pub returns-then-bit : goal.returns-then-bit
 returns-then-bit c apart =
     let a = c.args.self.literals in
-    let left = c.without-lowest-left.result in
-    code_literal a c.args.self.opposites c.args.k left c.without-lowest-left.ensures apart (omega (arith, c.if-left-eq0.false)) c.without-lowest-left.type-inv
+    let left = c.without_lowest-left.result in
+    code_literal a c.args.self.opposites c.args.k left c.without_lowest-left.ensures apart (omega (arith, c.if-left-eq0.false)) c.without_lowest-left.type_inv
     (eqb-true (bit (count_trailing_zeros 64 left) a) 1 (sym c.if-bit.ensures))
 
 pub returns-else-bit : goal.returns-else-bit
 returns-else-bit c apart =
     let a = c.args.self.literals in
-    let left = c.without-lowest-left.result in
-    code_opposite a c.args.self.opposites c.args.k left c.without-lowest-left.ensures apart (omega (arith, c.if-left-eq0.false)) c.without-lowest-left.type-inv
+    let left = c.without_lowest-left.result in
+    code_opposite a c.args.self.opposites c.args.k left c.without_lowest-left.ensures apart (omega (arith, c.if-left-eq0.false)) c.without_lowest-left.type_inv
     (eqb-false (bit (count_trailing_zeros 64 left) a) 1 (sym c.if-bit.ensures))
