@@ -2,13 +2,12 @@
 --
 --   phase_of, case_of   the rules' phase and case of a bench
 --   state_of     the whole state: a bench, what the shelf means, and the ledger
---   state_at     the same from the references that a call is passed
+--   state_at     the same from the shelf that a call is passed
 --   granted_told, shown_told, cheapest_told   the rules' answer of a result
 --   Done         what a call did: the shelf in order after, the answer and the
 --                state after those of an outcome
 --   IfRefused, IfGranted   a fact where a result is a refusal, or is none
 use Rattle.std.specs.Prelude.{◌≡◌, ℕ, List, ℤ, Ok, Err, Result}
-use Rattle.std.specs.Borrow.{Bor}
 use Rattle.cost.specs.Kinds.{Kind}
 use Rattle.shelf.specs.View.{View}
 use Rattle.rules.specs.Case as rules
@@ -44,9 +43,9 @@ case_of k b = record {
 abbrev pub state_of : {K A W : Type 0} → Kind A W → Bench K A W → View → List (Cell W) → rules.State
 state_of k b v l = record { bench = case_of k b; shelf = v; ledger = cells_of k l }
 
--- the same from the references that a call is passed
-abbrev pub state_at : {S K A W : Type 0} → Kind A W → (S → View) → Bor (Bench K A W) → Bor S → Bor (List (Cell W)) → rules.State
-state_at k view b s l = state_of k b.now (view s.now) l.now
+-- the same from the shelf that a call is passed
+abbrev pub state_at : {S K A W : Type 0} → Kind A W → (S → View) → Bench K A W → S → List (Cell W) → rules.State
+state_at k view b s l = state_of k b (view s) l
 
 abbrev pub granted_told : Result (Unit {0}) Fault → Answer
 granted_told (Ok u) = granted

@@ -29,7 +29,7 @@ impl<K: CostKind> Bench<K> {
     }
 
     fn ask_cheapest<S: Shelf>(&self, shelf: &S, ledger: &[Cell<K::Row>]) -> Result<(), Fault>
-        ensures { S.fine shelf.now → verdict_told result ≡ first_no (cheapest_questions (state_at K.kind S.view self.entry shelf.entry ledger.entry)) }
+        ensures { S.fine shelf.now → verdict_told result ≡ first_no (cheapest_questions (state_at K.kind S.view self.now shelf.now ledger.now)) }
     {
         self.ask_step(shelf, ledger)?;
         match self.shown {
@@ -47,7 +47,7 @@ impl<K: CostKind> Bench<K> {
         shelf: &S,
         ledger: &[Cell<K::Row>],
     ) -> Result<K::Amount, Fault>
-        ensures did { S.fine shelf.now → Done (S.fine shelf.now) (cheapest_told K.kind.figures result) (state_at K.kind S.view self.exit shelf.entry ledger.entry) (cheapest_does (state_at K.kind S.view self.entry shelf.entry ledger.entry)) }
+        ensures did { S.fine shelf.now → Done (S.fine shelf.now) (cheapest_told K.kind.figures result) (state_at K.kind S.view self.new shelf.now ledger.now) (cheapest_does (state_at K.kind S.view self.old shelf.now ledger.now)) }
         ensures refused { IfRefused result (self.new ≡ self.old) }
     {
         self.ask_cheapest(shelf, ledger)?;
@@ -56,7 +56,7 @@ impl<K: CostKind> Bench<K> {
     }
 
     fn ask_impossible<S: Shelf>(&self, shelf: &S, ledger: &[Cell<K::Row>]) -> Result<(), Fault>
-        ensures { S.fine shelf.now → verdict_told result ≡ first_no (impossible_questions (state_at K.kind S.view self.entry shelf.entry ledger.entry)) }
+        ensures { S.fine shelf.now → verdict_told result ≡ first_no (impossible_questions (state_at K.kind S.view self.now shelf.now ledger.now)) }
     {
         self.ask_step(shelf, ledger)?;
         if !self.impossible {
@@ -67,7 +67,7 @@ impl<K: CostKind> Bench<K> {
 
     // Claims that no plan meets every hard clause. A granted claim closes the case.
     pub fn impossible<S: Shelf>(&mut self, shelf: &S, ledger: &[Cell<K::Row>]) -> Result<(), Fault>
-        ensures did { S.fine shelf.now → Done (S.fine shelf.now) (granted_told result) (state_at K.kind S.view self.exit shelf.entry ledger.entry) (impossible_does (state_at K.kind S.view self.entry shelf.entry ledger.entry)) }
+        ensures did { S.fine shelf.now → Done (S.fine shelf.now) (granted_told result) (state_at K.kind S.view self.new shelf.now ledger.now) (impossible_does (state_at K.kind S.view self.old shelf.now ledger.now)) }
         ensures refused { IfRefused result (self.new ≡ self.old) }
     {
         self.ask_impossible(shelf, ledger)?;

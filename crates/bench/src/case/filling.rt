@@ -60,7 +60,7 @@ impl<K: CostKind> Bench<K> {
     }
 
     fn ask_open<S: Shelf>(&self, shelf: &S, ledger: &[Cell<K::Row>], n: u16) -> Result<(), Fault>
-        ensures { S.fine shelf.now → verdict_told result ≡ first_no (open_questions (state_at K.kind S.view self.entry shelf.entry ledger.entry) n) }
+        ensures { S.fine shelf.now → verdict_told result ≡ first_no (open_questions (state_at K.kind S.view self.now shelf.now ledger.now) n) }
     {
         if !ledger_is_long_enough::<K, S>(shelf, ledger) {
             return Err(Fault::LedgerTooShort);
@@ -79,7 +79,7 @@ impl<K: CostKind> Bench<K> {
         ledger: &mut [Cell<K::Row>],
         n: u16,
     ) -> Result<(), Fault>
-        ensures did { S.fine shelf.old → Done (S.fine shelf.new) (granted_told result) (state_at K.kind S.view self.exit shelf.exit ledger.exit) (open_does K.kind.scale (state_at K.kind S.view self.entry shelf.entry ledger.entry) n) }
+        ensures did { S.fine shelf.old → Done (S.fine shelf.new) (granted_told result) (state_at K.kind S.view self.new shelf.new ledger.new) (open_does K.kind.scale (state_at K.kind S.view self.old shelf.old ledger.old) n) }
         ensures refused { IfRefused result ((self.new ≡ self.old) × (shelf.new ≡ shelf.old) × (ledger.new ≡ ledger.old)) }
         ensures cleared { IfGranted result ((a : K.Amount) → K.kind.figures a ≡ zeros K.kind.scale.tiers → ledger.new ≡ replicate (length ledger.old) (SoftCell (K.kind.row a))) }
     {
@@ -108,7 +108,7 @@ impl<K: CostKind> Bench<K> {
         out: &mut [u32; 255],
     ) -> Result<usize, Fault>
         ensures low { IfOk result (λ m. m ≤ 255) }
-        ensures is { S.fine shelf.now → verdict_told result ≡ first_no (clause_questions (state_at K.kind S.view self.entry shelf.entry ledger.entry) place (codes_of clause.now)) }
+        ensures is { S.fine shelf.now → verdict_told result ≡ first_no (clause_questions (state_at K.kind S.view self.now shelf.now ledger.now) place (codes_of clause.now)) }
         ensures copied { S.fine shelf.now → Copied out.new (codes_of clause.now) result }
     {
         if !ledger_is_long_enough::<K, S>(shelf, ledger) {
@@ -137,7 +137,7 @@ impl<K: CostKind> Bench<K> {
         place: usize,
         clause: &[Literal],
     ) -> Result<(), Fault>
-        ensures did { S.fine shelf.old → Done (S.fine shelf.new) (granted_told result) (state_at K.kind S.view self.exit shelf.exit ledger.exit) (hard_does K.kind.scale (state_at K.kind S.view self.entry shelf.entry ledger.entry) place (codes_of clause.now)) }
+        ensures did { S.fine shelf.old → Done (S.fine shelf.new) (granted_told result) (state_at K.kind S.view self.new shelf.new ledger.new) (hard_does K.kind.scale (state_at K.kind S.view self.old shelf.old ledger.old) place (codes_of clause.now)) }
         ensures refused { IfRefused result ((self.new ≡ self.old) × (shelf.new ≡ shelf.old) × (ledger.new ≡ ledger.old)) }
     {
         let mut codes = [0u32; 255];
@@ -160,7 +160,7 @@ impl<K: CostKind> Bench<K> {
         out: &mut [u32; 255],
     ) -> Result<Accepted<K::Amount>, Fault>
         ensures low { IfOk result (λ a. a.count ≤ 255) }
-        ensures is { S.fine shelf.now → verdict_told result ≡ first_no (soft_questions K.kind.scale (state_at K.kind S.view self.entry shelf.entry ledger.entry) place figures.now (codes_of clause.now)) }
+        ensures is { S.fine shelf.now → verdict_told result ≡ first_no (soft_questions K.kind.scale (state_at K.kind S.view self.now shelf.now ledger.now) place figures.now (codes_of clause.now)) }
         ensures accepted { S.fine shelf.now → Accepts K.kind.figures out.new (codes_of clause.now) figures.now (K.kind.figures self.now.total) (K.kind.figures self.now.proved) result }
     {
         let count = self.ask_clause(shelf, ledger, place, clause, out)?;
@@ -190,7 +190,7 @@ impl<K: CostKind> Bench<K> {
         figures: &[i64],
         clause: &[Literal],
     ) -> Result<(), Fault>
-        ensures did { S.fine shelf.old → Done (S.fine shelf.new) (granted_told result) (state_at K.kind S.view self.exit shelf.exit ledger.exit) (soft_does K.kind.scale (state_at K.kind S.view self.entry shelf.entry ledger.entry) place figures.now (codes_of clause.now)) }
+        ensures did { S.fine shelf.old → Done (S.fine shelf.new) (granted_told result) (state_at K.kind S.view self.new shelf.new ledger.new) (soft_does K.kind.scale (state_at K.kind S.view self.old shelf.old ledger.old) place figures.now (codes_of clause.now)) }
         ensures refused { IfRefused result ((self.new ≡ self.old) × (shelf.new ≡ shelf.old) × (ledger.new ≡ ledger.old)) }
     {
         let mut codes = [0u32; 255];
@@ -210,7 +210,7 @@ impl<K: CostKind> Bench<K> {
     }
 
     fn ask_seal<S: Shelf>(&self, shelf: &S, ledger: &[Cell<K::Row>]) -> Result<(), Fault>
-        ensures { S.fine shelf.now → verdict_told result ≡ first_no (seal_questions (state_at K.kind S.view self.entry shelf.entry ledger.entry)) }
+        ensures { S.fine shelf.now → verdict_told result ≡ first_no (seal_questions (state_at K.kind S.view self.now shelf.now ledger.now)) }
     {
         if !ledger_is_long_enough::<K, S>(shelf, ledger) {
             return Err(Fault::LedgerTooShort);
@@ -223,7 +223,7 @@ impl<K: CostKind> Bench<K> {
 
     // Ends filling.
     pub fn seal<S: Shelf>(&mut self, shelf: &S, ledger: &[Cell<K::Row>]) -> Result<(), Fault>
-        ensures did { S.fine shelf.now → Done (S.fine shelf.now) (granted_told result) (state_at K.kind S.view self.exit shelf.entry ledger.entry) (seal_does (state_at K.kind S.view self.entry shelf.entry ledger.entry)) }
+        ensures did { S.fine shelf.now → Done (S.fine shelf.now) (granted_told result) (state_at K.kind S.view self.new shelf.now ledger.now) (seal_does (state_at K.kind S.view self.old shelf.now ledger.now)) }
         ensures refused { IfRefused result (self.new ≡ self.old) }
     {
         self.ask_seal(shelf, ledger)?;

@@ -24,7 +24,7 @@ impl<K: CostKind> Bench<K> {
         ledger: &[Cell<K::Row>],
         strip: &[u8],
     ) -> Result<(K::Amount, usize), Fault>
-        ensures is { S.fine shelf.now → verdict_told result ≡ first_no (show_questions K.kind.scale (state_at K.kind S.view self.entry shelf.entry ledger.entry) strip.now) }
+        ensures is { S.fine shelf.now → verdict_told result ≡ first_no (show_questions K.kind.scale (state_at K.kind S.view self.now shelf.now ledger.now) strip.now) }
         ensures bill { S.fine shelf.now → Bills K.kind.figures (K.kind.figures self.now.proved) (owed strip.now (S.view shelf.now).held (cells_of K.kind ledger.now)) result }
     {
         if !ledger_is_long_enough::<K, S>(shelf, ledger) {
@@ -53,7 +53,7 @@ impl<K: CostKind> Bench<K> {
         ledger: &[Cell<K::Row>],
         strip: &[u8],
     ) -> Result<(K::Amount, usize), Fault>
-        ensures did { S.fine shelf.now → Done (S.fine shelf.now) (shown_told K.kind.figures result) (state_at K.kind S.view self.exit shelf.entry ledger.entry) (show_does K.kind.scale (state_at K.kind S.view self.entry shelf.entry ledger.entry) strip.now) }
+        ensures did { S.fine shelf.now → Done (S.fine shelf.now) (shown_told K.kind.figures result) (state_at K.kind S.view self.new shelf.now ledger.now) (show_does K.kind.scale (state_at K.kind S.view self.old shelf.now ledger.now) strip.now) }
         ensures refused { IfRefused result (self.new ≡ self.old) }
     {
         let owing = self.ask_show(shelf, ledger, strip)?;

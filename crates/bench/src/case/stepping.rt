@@ -26,7 +26,7 @@ use steps::splitting::{ask_split, split};
 impl<K: CostKind> Bench<K> {
     // What every step and claim is asked first.
     pub(crate) fn ask_step<S: Shelf>(&self, shelf: &S, ledger: &[Cell<K::Row>]) -> Result<(), Fault>
-        ensures { S.fine shelf.now → verdict_told result ≡ first_no (step_fits (state_at K.kind S.view self.entry shelf.entry ledger.entry)) }
+        ensures { S.fine shelf.now → verdict_told result ≡ first_no (step_fits (state_at K.kind S.view self.now shelf.now ledger.now)) }
     {
         if !ledger_is_long_enough::<K, S>(shelf, ledger) {
             return Err(Fault::LedgerTooShort);
@@ -47,7 +47,7 @@ impl<K: CostKind> Bench<K> {
         variable: u16,
         to: usize,
     ) -> Result<(), Fault>
-        ensures did { S.fine shelf.old → Done (S.fine shelf.new) (granted_told result) (state_at K.kind S.view self.exit shelf.exit ledger.exit) (split_does K.kind.scale (state_at K.kind S.view self.entry shelf.entry ledger.entry) place variable to) }
+        ensures did { S.fine shelf.old → Done (S.fine shelf.new) (granted_told result) (state_at K.kind S.view self.new shelf.new ledger.new) (split_does K.kind.scale (state_at K.kind S.view self.old shelf.old ledger.old) place variable to) }
         ensures refused { IfRefused result ((self.new ≡ self.old) × (shelf.new ≡ shelf.old) × (ledger.new ≡ ledger.old)) }
     {
         self.ask_step(shelf, ledger)?;
@@ -66,7 +66,7 @@ impl<K: CostKind> Bench<K> {
         i: usize,
         j: usize,
     ) -> Result<(), Fault>
-        ensures did { S.fine shelf.old → Done (S.fine shelf.new) (granted_told result) (state_at K.kind S.view self.exit shelf.exit ledger.exit) (join_does K.kind.scale (state_at K.kind S.view self.entry shelf.entry ledger.entry) i j) }
+        ensures did { S.fine shelf.old → Done (S.fine shelf.new) (granted_told result) (state_at K.kind S.view self.new shelf.new ledger.new) (join_does K.kind.scale (state_at K.kind S.view self.old shelf.old ledger.old) i j) }
         ensures refused { IfRefused result ((self.new ≡ self.old) × (shelf.new ≡ shelf.old) × (ledger.new ≡ ledger.old)) }
     {
         self.ask_step(shelf, ledger)?;
@@ -86,7 +86,7 @@ impl<K: CostKind> Bench<K> {
         variable: u16,
         to: usize,
     ) -> Result<(), Fault>
-        ensures did { S.fine shelf.old → Done (S.fine shelf.new) (granted_told result) (state_at K.kind S.view self.exit shelf.exit ledger.exit) (resolve_does K.kind.scale (state_at K.kind S.view self.entry shelf.entry ledger.entry) i j variable to) }
+        ensures did { S.fine shelf.old → Done (S.fine shelf.new) (granted_told result) (state_at K.kind S.view self.new shelf.new ledger.new) (resolve_does K.kind.scale (state_at K.kind S.view self.old shelf.old ledger.old) i j variable to) }
         ensures refused { IfRefused result ((self.new ≡ self.old) × (shelf.new ≡ shelf.old) × (ledger.new ≡ ledger.old)) }
     {
         self.ask_step(shelf, ledger)?;
@@ -109,7 +109,7 @@ impl<K: CostKind> Bench<K> {
         to: usize,
         literals: &[Literal],
     ) -> Result<(), Fault>
-        ensures did { S.fine shelf.old → Done (S.fine shelf.new) (granted_told result) (state_at K.kind S.view self.exit shelf.exit ledger.exit) (define_does K.kind.scale (state_at K.kind S.view self.entry shelf.entry ledger.entry) to (codes_of literals.now)) }
+        ensures did { S.fine shelf.old → Done (S.fine shelf.new) (granted_told result) (state_at K.kind S.view self.new shelf.new ledger.new) (define_does K.kind.scale (state_at K.kind S.view self.old shelf.old ledger.old) to (codes_of literals.now)) }
         ensures refused { IfRefused result ((self.new ≡ self.old) × (shelf.new ≡ shelf.old) × (ledger.new ≡ ledger.old)) }
     {
         self.ask_step(shelf, ledger)?;
@@ -128,7 +128,7 @@ impl<K: CostKind> Bench<K> {
         ledger: &mut [Cell<K::Row>],
         i: usize,
     ) -> Result<(), Fault>
-        ensures did { S.fine shelf.now → Done (S.fine shelf.now) (granted_told result) (state_at K.kind S.view self.exit shelf.entry ledger.exit) (harden_does K.kind.scale (state_at K.kind S.view self.entry shelf.entry ledger.entry) i) }
+        ensures did { S.fine shelf.now → Done (S.fine shelf.now) (granted_told result) (state_at K.kind S.view self.new shelf.now ledger.new) (harden_does K.kind.scale (state_at K.kind S.view self.old shelf.now ledger.old) i) }
         ensures refused { IfRefused result ((self.new ≡ self.old) × (ledger.new ≡ ledger.old)) }
     {
         self.ask_step(shelf, ledger)?;

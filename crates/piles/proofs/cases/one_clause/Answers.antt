@@ -18,7 +18,7 @@ returns-in_err-open g c h =
     let v = view c.args.shelf.now in
     let a₀ = state_of k c.new-bench.result v c.args.ledger.now in
     let start = ap (λ b. one_clause_case k.scale (record { bench = b; shelf = v; ledger = cells_of k c.args.ledger.now }) xs) c.new-bench.ensures in
-    let p = err_from_is_err_and c.from-residual.result c.from-residual.ensures.1 in
+    let p = err_from_is_err_and c.from_residual.result c.from_residual.ensures.1 in
     let d = c.in_err-open.ensures.did h in
     rw (p.1, p.2) (stops_here k.scale a₀ _ (opens 1) (gives_soft 0 xs (2 ∷ []) ∷ seals ∷ shows (1 ∷ []) ∷ claims_cheapest ∷ []) d ∙ start)
 
@@ -36,7 +36,7 @@ returns-in_err-soft g c h =
     let F : ℕ → Type 0 = λ n. Done (g.S.Shelf.fine c.soft.new.shelf) (refused (number_of c.in_err-soft.field-0.0) (tier_of c.in_err-soft.field-0.0)) (state_of k c.soft.new.self (view c.soft.new.shelf) c.soft.new.ledger) (soft_does k.scale a₁ 0 xs (n ∷ [])) in
     let d₂ = subst F c.of.ensures (c.in_err-soft.ensures.did d₁.fine) in
     let a₂ = state_of k c.soft.new.self (view c.soft.new.shelf) c.soft.new.ledger in
-    let p = err_from_is_err_and c.from-residual-in_err-soft.result c.from-residual-in_err-soft.ensures.1 in
+    let p = err_from_is_err_and c.from_residual-in_err-soft.result c.from_residual-in_err-soft.ensures.1 in
     rw (p.1, p.2) (stops_here k.scale a₁ a₂ (gives_soft 0 xs (2 ∷ [])) (seals ∷ shows (1 ∷ []) ∷ claims_cheapest ∷ []) d₂ ∙ g₁ ∙ start)
 
 pub returns-in_err-seal : goal.returns-in_err-seal
@@ -54,7 +54,7 @@ returns-in_err-seal g c h =
     let d₂ = subst F c.of.ensures (c.in_ok-soft.ensures.did d₁.fine) in
     let a₂ = state_of k c.soft.new.self (view c.soft.new.shelf) c.soft.new.ledger in
     let g₂ = goes_on k.scale a₁ a₂ (gives_soft 0 xs (2 ∷ [])) seals (shows (1 ∷ []) ∷ claims_cheapest ∷ []) d₂ in
-    let p = err_from_is_err_and c.from-residual-in_err-seal.result c.from-residual-in_err-seal.ensures.1 in
+    let p = err_from_is_err_and c.from_residual-in_err-seal.result c.from_residual-in_err-seal.ensures.1 in
     let d = c.in_err-seal.ensures.did d₂.fine in
     rw (p.1, p.2) (stops_here k.scale a₂ _ seals (shows (1 ∷ []) ∷ claims_cheapest ∷ []) d ∙ g₂ ∙ g₁ ∙ start)
 
@@ -76,7 +76,7 @@ returns-in_err-show g c h =
     let d₃ = c.in_ok-seal.ensures.did d₂.fine in
     let a₃ = state_of k c.seal.new.self (view c.soft.new.shelf) c.soft.new.ledger in
     let g₃ = goes_on k.scale a₂ a₃ seals (shows (1 ∷ [])) (claims_cheapest ∷ []) d₃ in
-    let p = err_from_is_err_and c.from-residual-in_err-show.result c.from-residual-in_err-show.ensures.1 in
+    let p = err_from_is_err_and c.from_residual-in_err-show.result c.from_residual-in_err-show.ensures.1 in
     let d = c.in_err-show.ensures.did d₂.fine in
     rw (p.1, p.2) (stops_here k.scale a₃ _ (shows (1 ∷ [])) (claims_cheapest ∷ []) d ∙ g₃ ∙ g₂ ∙ g₁ ∙ start)
 

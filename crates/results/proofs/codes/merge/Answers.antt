@@ -14,7 +14,7 @@ loop-i-preserved c =
       | else-a-b+else-a-b-2 w ↦ let t = take_right m r (omega arith) (omega arith) (omega arith) in search rules
     ]
 
-one_ended : (c : goal.After-slice-known-3·1) → (length c.args.x.now ≤ c.loop-i.i) ⊎ (length c.args.y.now ≤ c.loop-i.j)
+one_ended : (c : goal.After-slice_known-3-1) → (length c.args.x.now ≤ c.loop-i.i) ⊎ (length c.args.y.now ≤ c.loop-i.j)
 one_ended c = elim c.loop-i-test.branch [ then-loop-i-test+else-j-y w ↦ inr w.if-j-y.false | else-loop-i-test w ↦ inl w.loop-i-test.false ]
 
 pub returns : goal.returns

@@ -11,7 +11,7 @@ pub loop-k-preserved : goal.loop-k-preserved
 loop-k-preserved c = put_more c.loop-k.invariant (omega arith) (omega arith) (omega arith)
 
 -- the rest is greater, or there is none
-ended : (c : goal.After-slice-known-2·1) → (length c.args.codes.now ≤ c.loop-k.k) ⊎ ((c.loop-k.k < length c.args.codes.now) × (c.args.code < get_or c.args.codes.now c.loop-k.k 0))
+ended : (c : goal.After-slice_known-2-1) → (length c.args.codes.now ≤ c.loop-k.k) ⊎ ((c.loop-k.k < length c.args.codes.now) × (c.args.code < get_or c.args.codes.now c.loop-k.k 0))
 ended c = elim c.loop-k-test.branch [ then-loop-k-test+else-codes-k w ↦ inr (w.loop-k-test.true, w.if-codes-k.false) | else-loop-k-test w ↦ inl w.loop-k-test.false ]
 
 pub returns : goal.returns

@@ -2,8 +2,8 @@ use Rattle.std.proofs.Common.{◌≡◌, sym, ◌∙◌, arith}
 use Rattle.shelf.proofs.Writing.{roomy_more, roomy_stop, roomy_done, past_not, taken_not}
 use Rattle.shelf.proofs.places.has_room.Goals as goal
 
-pub returns-then-place_count : goal.returns-then-place_count
-returns-then-place_count g c h =
+pub returns-then-place-count : goal.returns-then-place-count
+returns-then-place-count g c h =
     let v = g.S.Shelf.view c.args.shelf.now in
     let n = c.place_count-count.ensures.is h in
     roomy_stop v c.loop-k.place c.args.n c.loop-k.k (c.loop-k.invariant h) (omega arith) (past_not v c.loop-k.place (omega arith))

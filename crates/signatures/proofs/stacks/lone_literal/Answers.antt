@@ -10,7 +10,7 @@ unfolding size_then
 returns-in_err-add g c h =
     let v = g.S.Shelf.view c.args.shelf.now in
     let size = length (clause (after_add v 0 c.args.literal.code) 0) in
-    let e = err_from_is_err_and c.from-residual.result c.from-residual.ensures.1 in
+    let e = err_from_is_err_and c.from_residual.result c.from_residual.ensures.1 in
     rw (e.1, e.2) (ap (answer_with size) (c.in_err-add.ensures.did h).answer)
 
 pub returns : goal.returns

@@ -13,7 +13,7 @@ returns-in_err-ask_sources g c =
     let k = g.K.CostKind.kind in
     let v = g.S.Shelf.view c.args.shelf.now in
     let l = c.args.ledger.now in
-    let p = err_from_is_err_and c.from-residual.result c.from-residual.ensures.1 in
+    let p = err_from_is_err_and c.from_residual.result c.from_residual.ensures.1 in
     rw (p.1, p.2) (record {
       is = λ h. stop_sources k.scale v (cell_here k l c.args.i) (cell_here k l c.args.j) (k.figures c.args.proved) c.args.i c.args.j c.args.variable c.args.to _ _ (c.in_err-ask_sources.ensures h);
       resolution = λ h. tt;
@@ -31,7 +31,7 @@ returns-in_err-empty g c =
     let wi = ap not (c.is_hard_cell-with_i.ensures ∙ ap is_hard c.read_cell-a.ensures) in
     let wj = ap not (c.is_hard_cell-with_j.ensures ∙ ap is_hard c.read_cell-b.ensures) in
     let same = same_results v i j x wi wj in
-    let p = err_from_is_err_and c.from-residual-in_err-empty.result c.from-residual-in_err-empty.ensures.1 in
+    let p = err_from_is_err_and c.from_residual-in_err-empty.result c.from_residual-in_err-empty.ensures.1 in
     rw (p.1, p.2) (record {
       is = λ h.
           stop_results k.scale v (cell_here k l i) (cell_here k l j) (k.figures c.args.proved) i j x to (c.in_ok-ask_sources.ensures h) _ _
@@ -52,7 +52,7 @@ returns-in_err-weighed g c =
     let wi = ap not (c.is_hard_cell-with_i.ensures ∙ ap is_hard c.read_cell-a.ensures) in
     let wj = ap not (c.is_hard_cell-with_j.ensures ∙ ap is_hard c.read_cell-b.ensures) in
     let same = same_results v i j x wi wj in
-    let p = err_from_is_err_and c.from-residual-in_err-weighed.result c.from-residual-in_err-weighed.ensures.1 in
+    let p = err_from_is_err_and c.from_residual-in_err-weighed.result c.from_residual-in_err-weighed.ensures.1 in
     rw (p.1, p.2) (record {
       is = λ h.
           let h₂ = c.in_ok-empty.ensures.is h ∙ ap (λ (rs : List (List ℕ)). first_no (result_questions v to rs)) same in

@@ -23,7 +23,7 @@ returns-in_err-owing g c =
     let k = g.K.CostKind.kind in
     let s = state_of k c.args.self.now (g.S.Shelf.view c.args.shelf.now) c.args.ledger.now in
     let x = c.args.strip.now in
-    let p = err_from_is_err_and c.from-residual.result c.from-residual.ensures.1 in
+    let p = err_from_is_err_and c.from_residual.result c.from_residual.ensures.1 in
     rw (p.1, p.2) (record {
       is = λ h.
           let a₁ = sym (c.ledger_is_long_enough.ensures h) ∙ c.if-not-ledger_is_long_enough.false in

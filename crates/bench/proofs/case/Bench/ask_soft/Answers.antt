@@ -15,7 +15,7 @@ returns-in_err-count g c =
     let s = state_of k c.args.self.now (g.S.Shelf.view c.args.shelf.now) c.args.ledger.now in
     let xs = c.args.figures.now in
     let cs = codes c.args.clause.now in
-    let p = err_from_is_err_and c.from-residual.result c.from-residual.ensures.1 in
+    let p = err_from_is_err_and c.from_residual.result c.from_residual.ensures.1 in
     rw (p.1, p.2) (record {
       low = tt;
       is = λ h. soft_stop k.scale s c.args.place xs cs _ _ (c.in_err-count.ensures.is h);
@@ -31,24 +31,24 @@ returns-in-None g c =
     let f = test_none (amount_fits k.scale s.bench.total xs) (record { amount = xs; total = plus s.bench.total xs }) c.in-None.ensures in
     record { low = tt; is = λ h. soft_unfit k.scale s c.args.place xs cs (c.in_ok-count.ensures.is h) f; accepted = λ h. tt }
 
-pub returns-in_err-proved : goal.returns-in_err-proved
-returns-in_err-proved g c =
+pub returns-in_err-proved-in-Some : goal.returns-in_err-proved-in-Some
+returns-in_err-proved-in-Some g c =
     let k = g.K.CostKind.kind in
     let s = state_of k c.args.self.now (g.S.Shelf.view c.args.shelf.now) c.args.ledger.now in
     let xs = c.args.figures.now in
     let cs = codes c.args.clause.now in
-    let p = err_from_is_err_and c.from-residual-in_err-proved.result c.from-residual-in_err-proved.ensures.1 in
+    let p = err_from_is_err_and c.from_residual-in_err-proved-in-Some.result c.from_residual-in_err-proved-in-Some.ensures.1 in
     let t = test_some (amount_fits k.scale s.bench.total xs) (record { amount = xs; total = plus s.bench.total xs }) _ c.in-Some.ensures in
     let e = eqb (length c.args.clause.now) 0 in
     rw (p.1, p.2) (record {
       low = tt;
       is = λ h.
-          soft_out k.scale s c.args.place xs cs (c.in_ok-count.ensures.is h) t.0 (k.figures c.in-Some.taken.0) e (ap (λ (y : Taken). y.amount) t.1) (empty_test c.args.clause.now) _ c.in_err-proved.ensures;
+          soft_out k.scale s c.args.place xs cs (c.in_ok-count.ensures.is h) t.0 (k.figures c.in-Some.taken.0) e (ap (λ (y : Taken). y.amount) t.1) (empty_test c.args.clause.now) _ c.in_err-proved-in-Some.ensures;
       accepted = λ h. tt;
     })
 
-pub returns-in_ok-proved : goal.returns-in_ok-proved
-returns-in_ok-proved g c =
+pub returns-in_ok-proved-in-Some : goal.returns-in_ok-proved-in-Some
+returns-in_ok-proved-in-Some g c =
     let k = g.K.CostKind.kind in
     let s = state_of k c.args.self.now (g.S.Shelf.view c.args.shelf.now) c.args.ledger.now in
     let xs = c.args.figures.now in
@@ -58,12 +58,12 @@ returns-in_ok-proved g c =
     record {
       low = c.in_ok-count.ensures.low;
       is = λ h.
-          (soft_pass k.scale s c.args.place xs cs (c.in_ok-count.ensures.is h) t.0 (k.figures c.in-Some.taken.0) e (ap (λ (y : Taken). y.amount) t.1) (empty_test c.args.clause.now) _ c.in_ok-proved.ensures).0;
+          (soft_pass k.scale s c.args.place xs cs (c.in_ok-count.ensures.is h) t.0 (k.figures c.in-Some.taken.0) e (ap (λ (y : Taken). y.amount) t.1) (empty_test c.args.clause.now) _ c.in_ok-proved-in-Some.ensures).0;
       accepted = λ h. record {
         copied = c.in_ok-count.ensures.copied h;
         amount-is = ap (λ (y : Taken). y.amount) t.1;
         total-is = ap (λ (y : Taken). y.total) t.1;
         proved_is =
-            (soft_pass k.scale s c.args.place xs cs (c.in_ok-count.ensures.is h) t.0 (k.figures c.in-Some.taken.0) e (ap (λ (y : Taken). y.amount) t.1) (empty_test c.args.clause.now) _ c.in_ok-proved.ensures).1;
+            (soft_pass k.scale s c.args.place xs cs (c.in_ok-count.ensures.is h) t.0 (k.figures c.in-Some.taken.0) e (ap (λ (y : Taken). y.amount) t.1) (empty_test c.args.clause.now) _ c.in_ok-proved-in-Some.ensures).1;
       };
     }

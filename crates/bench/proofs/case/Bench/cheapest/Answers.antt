@@ -12,7 +12,7 @@ returns-in_err-ask_cheapest g c =
     let k = g.K.CostKind.kind in
     let s = state_of k c.args.self.now (g.S.Shelf.view c.args.shelf.now) c.args.ledger.now in
     let o : Outcome = record { answer = cheapest_at s.bench.proved; after = ended s } in
-    let p = err_from_is_err_and c.from-residual.result c.from-residual.ensures.1 in
+    let p = err_from_is_err_and c.from_residual.result c.from_residual.ensures.1 in
     rw (p.1, p.2) (record {
       did = λ h. refusing h s (cheapest_questions s) o c.in_err-ask_cheapest.field-0.0 (c.in_err-ask_cheapest.ensures h);
       refused = refl;

@@ -16,7 +16,7 @@ returns-in_err-ask_step g c =
     let s = state_of k c.args.self.now v c.args.ledger.now in
     let to = c.args.to in
     let ls = codes c.args.literals.now in
-    let p = err_from_is_err_and c.from-residual.result c.from-residual.ensures.1 in
+    let p = err_from_is_err_and c.from_residual.result c.from_residual.ensures.1 in
     rw (p.1, p.2) (record { did = λ h. refused_first h s (define_asks v s.bench.current to ls) (worked (define_done s to ls)) c.in_err-ask_step.field-0.0 (c.in_err-ask_step.ensures h); refused = (refl, refl, refl) })
 
 pub returns-in_err-next : goal.returns-in_err-next
@@ -27,7 +27,7 @@ returns-in_err-next g c =
     let s = state_of k c.args.self.now v c.args.ledger.now in
     let to = c.args.to in
     let ls = codes c.args.literals.now in
-    let p = err_from_is_err_and c.from-residual-in_err-next.result c.from-residual-in_err-next.ensures.1 in
+    let p = err_from_is_err_and c.from_residual-in_err-next.result c.from_residual-in_err-next.ensures.1 in
     rw (p.1, p.2) (record { did = λ h. refused_then h s (define_asks v s.bench.current to ls) (worked (define_done s to ls)) (c.in_ok-ask_step.ensures h) c.in_err-next.field-0.0 (c.in_err-next.ensures.is h); refused = (refl, refl, refl) })
 
 pub returns : goal.returns

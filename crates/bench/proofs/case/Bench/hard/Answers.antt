@@ -19,7 +19,7 @@ returns-in_err-count g c =
     let k = g.K.CostKind.kind in
     let s = state_of k c.args.self.now (g.S.Shelf.view c.args.shelf.now) c.args.ledger.now in
     let cs = codes c.args.clause.now in
-    let p = err_from_is_err_and c.from-residual.result c.from-residual.ensures.1 in
+    let p = err_from_is_err_and c.from_residual.result c.from_residual.ensures.1 in
     rw (p.1, p.2) (record {
       did = λ h. refusing h s (clause_questions s c.args.place cs) (grants (hard_done s c.args.place cs)) c.in_err-count.field-0.0 (c.in_err-count.ensures.is h);
       refused = (refl, refl, refl);

@@ -13,7 +13,7 @@ returns-in_err-ask_step g c =
     let v = g.S.Shelf.view c.args.shelf.now in
     let s = state_of k c.args.self.now v c.args.ledger.now in
     let i = c.args.i in
-    let p = err_from_is_err_and c.from-residual.result c.from-residual.ensures.1 in
+    let p = err_from_is_err_and c.from_residual.result c.from_residual.ensures.1 in
     rw (p.1, p.2) (record { did = λ h. refused_first h s (harden_asks v (cell_in k.scale s i) s.bench.proved s.bench.shown i) (worked (harden_done s i)) c.in_err-ask_step.field-0.0 (c.in_err-ask_step.ensures h); refused = (refl, refl) })
 
 pub returns-in_err-ask_harden : goal.returns-in_err-ask_harden
@@ -23,7 +23,7 @@ returns-in_err-ask_harden g c =
     let v = g.S.Shelf.view c.args.shelf.now in
     let s = state_of k c.args.self.now v c.args.ledger.now in
     let i = c.args.i in
-    let p = err_from_is_err_and c.from-residual-in_err-ask_harden.result c.from-residual-in_err-ask_harden.ensures.1 in
+    let p = err_from_is_err_and c.from_residual-in_err-ask_harden.result c.from_residual-in_err-ask_harden.ensures.1 in
     rw (p.1, p.2) (record { did = λ h. refused_then h s (harden_asks v (cell_in k.scale s i) s.bench.proved s.bench.shown i) (worked (harden_done s i)) (c.in_ok-ask_step.ensures h) c.in_err-ask_harden.field-0.0 (c.in_err-ask_harden.ensures h); refused = (refl, refl) })
 
 pub returns : goal.returns

@@ -13,7 +13,7 @@ returns-in_err-ask_step g c =
     let s = state_of k c.args.self.now v c.args.ledger.now in
     let i = c.args.i in
     let j = c.args.j in
-    let p = err_from_is_err_and c.from-residual.result c.from-residual.ensures.1 in
+    let p = err_from_is_err_and c.from_residual.result c.from_residual.ensures.1 in
     rw (p.1, p.2) (record { did = λ h. refused_first h s (join_asks k.scale v (cell_in k.scale s i) (cell_in k.scale s j) i j) (worked (join_done k.scale s i j)) c.in_err-ask_step.field-0.0 (c.in_err-ask_step.ensures h); refused = (refl, refl, refl) })
 
 pub returns-in_err-sum : goal.returns-in_err-sum
@@ -24,7 +24,7 @@ returns-in_err-sum g c =
     let s = state_of k c.args.self.now v c.args.ledger.now in
     let i = c.args.i in
     let j = c.args.j in
-    let p = err_from_is_err_and c.from-residual-in_err-sum.result c.from-residual-in_err-sum.ensures.1 in
+    let p = err_from_is_err_and c.from_residual-in_err-sum.result c.from_residual-in_err-sum.ensures.1 in
     rw (p.1, p.2) (record { did = λ h. refused_then h s (join_asks k.scale v (cell_in k.scale s i) (cell_in k.scale s j) i j) (worked (join_done k.scale s i j)) (c.in_ok-ask_step.ensures h) c.in_err-sum.field-0.0 (c.in_err-sum.ensures.is h); refused = (refl, refl, refl) })
 
 pub returns : goal.returns

@@ -15,7 +15,7 @@ unfolding open_does
 returns-in_err-ask_open g c =
     let k = g.K.CostKind.kind in
     let s = state_of k c.args.self.now (g.S.Shelf.view c.args.shelf.now) c.args.ledger.now in
-    let p = err_from_is_err_and c.from-residual.result c.from-residual.ensures.1 in
+    let p = err_from_is_err_and c.from_residual.result c.from_residual.ensures.1 in
     rw (p.1, p.2) (record {
       did = λ h. refusing h s (open_questions s c.args.n) (grants (open_done k.scale s c.args.n)) c.in_err-ask_open.field-0.0 (c.in_err-ask_open.ensures h);
       refused = (refl, refl, refl);

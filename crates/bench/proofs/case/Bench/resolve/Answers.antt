@@ -20,7 +20,7 @@ returns-in_err-ask_step g c =
     let j = c.args.j in
     let x = c.args.variable in
     let to = c.args.to in
-    let p = err_from_is_err_and c.from-residual.result c.from-residual.ensures.1 in
+    let p = err_from_is_err_and c.from_residual.result c.from_residual.ensures.1 in
     rw (p.1, p.2) (record { did = λ h. refused_first h s (resolve_asks k.scale v (cell_in k.scale s i) (cell_in k.scale s j) s.bench.proved i j x to) (worked (resolve_done k.scale s i j x to)) c.in_err-ask_step.field-0.0 (c.in_err-ask_step.ensures h); refused = (refl, refl, refl) })
 
 pub returns-in_err-r : goal.returns-in_err-r
@@ -33,7 +33,7 @@ returns-in_err-r g c =
     let j = c.args.j in
     let x = c.args.variable in
     let to = c.args.to in
-    let p = err_from_is_err_and c.from-residual-in_err-r.result c.from-residual-in_err-r.ensures.1 in
+    let p = err_from_is_err_and c.from_residual-in_err-r.result c.from_residual-in_err-r.ensures.1 in
     rw (p.1, p.2) (record { did = λ h. refused_then h s (resolve_asks k.scale v (cell_in k.scale s i) (cell_in k.scale s j) s.bench.proved i j x to) (worked (resolve_done k.scale s i j x to)) (c.in_ok-ask_step.ensures h) c.in_err-r.field-0.0 (c.in_err-r.ensures.is h); refused = (refl, refl, refl) })
 
 pub returns : goal.returns

@@ -11,7 +11,7 @@ pub returns-in_err-ask_seal : goal.returns-in_err-ask_seal
 unfolding seal_does
 returns-in_err-ask_seal g c =
     let s = state_of g.K.CostKind.kind c.args.self.now (g.S.Shelf.view c.args.shelf.now) c.args.ledger.now in
-    let p = err_from_is_err_and c.from-residual.result c.from-residual.ensures.1 in
+    let p = err_from_is_err_and c.from_residual.result c.from_residual.ensures.1 in
     rw (p.1, p.2) (record {
       did = λ h. refusing h s (seal_questions s) (grants (with_bench s (with_phase s.bench sealed))) c.in_err-ask_seal.field-0.0 (c.in_err-ask_seal.ensures h);
       refused = refl;

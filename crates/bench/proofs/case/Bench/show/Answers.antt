@@ -12,7 +12,7 @@ returns-in_err-owing g c =
     let k = g.K.CostKind.kind in
     let s = state_of k c.args.self.now (g.S.Shelf.view c.args.shelf.now) c.args.ledger.now in
     let x = c.args.strip.now in
-    let p = err_from_is_err_and c.from-residual.result c.from-residual.ensures.1 in
+    let p = err_from_is_err_and c.from_residual.result c.from_residual.ensures.1 in
     rw (p.1, p.2) (record {
       did = λ h. refusing h s (show_questions k.scale s x) (show_done s x) c.in_err-owing.field-0.0 (c.in_err-owing.ensures.is h);
       refused = refl;

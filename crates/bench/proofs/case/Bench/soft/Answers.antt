@@ -23,7 +23,7 @@ returns-in_err-accepted g c =
     let s = state_of k c.args.self.now (g.S.Shelf.view c.args.shelf.now) c.args.ledger.now in
     let xs = c.args.figures.now in
     let cs = codes c.args.clause.now in
-    let p = err_from_is_err_and c.from-residual.result c.from-residual.ensures.1 in
+    let p = err_from_is_err_and c.from_residual.result c.from_residual.ensures.1 in
     rw (p.1, p.2) (record {
       did = λ h. refusing h s (soft_questions k.scale s c.args.place xs cs) (grants (soft_done s c.args.place xs cs)) c.in_err-accepted.field-0.0 (c.in_err-accepted.ensures.is h);
       refused = (refl, refl, refl);

@@ -15,7 +15,7 @@ returns-in_err-ask_step g c =
     let at = c.args.place in
     let x = c.args.variable in
     let to = c.args.to in
-    let p = err_from_is_err_and c.from-residual.result c.from-residual.ensures.1 in
+    let p = err_from_is_err_and c.from_residual.result c.from_residual.ensures.1 in
     rw (p.1, p.2) (record { did = λ h. refused_first h s (split_asks v s.bench.current at x to) (worked (split_done k.scale s at x to)) c.in_err-ask_step.field-0.0 (c.in_err-ask_step.ensures h); refused = (refl, refl, refl) })
 
 pub returns-in_err-ask_split : goal.returns-in_err-ask_split
@@ -27,7 +27,7 @@ returns-in_err-ask_split g c =
     let at = c.args.place in
     let x = c.args.variable in
     let to = c.args.to in
-    let p = err_from_is_err_and c.from-residual-in_err-ask_split.result c.from-residual-in_err-ask_split.ensures.1 in
+    let p = err_from_is_err_and c.from_residual-in_err-ask_split.result c.from_residual-in_err-ask_split.ensures.1 in
     rw (p.1, p.2) (record { did = λ h. refused_then h s (split_asks v s.bench.current at x to) (worked (split_done k.scale s at x to)) (c.in_ok-ask_step.ensures h) c.in_err-ask_split.field-0.0 (c.in_err-ask_split.ensures h); refused = (refl, refl, refl) })
 
 pub returns : goal.returns
