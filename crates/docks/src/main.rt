@@ -6,6 +6,9 @@
 // minutes are lost. The post goes over dock 1, else it is 10 minutes late. Each dock in
 // use loses a slot and 5 minutes. Docks 1 and 2 together cost 2 slots and 10 minutes.
 // Dock 3 alone, without parcels and post, would cost 2 slots and 20 minutes.
+
+#![tactic(auto)]
+
 use bench::case::Bench;
 use cost::amounts::{Slots, SlotsRow};
 use ledger::cell::Cell;

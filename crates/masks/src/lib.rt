@@ -3,6 +3,9 @@
 // So a clause has variables up to 64, and a question is answered by operations on
 // whole words. Every call asks all its questions before it writes, and tests a
 // place's words before it reads them.
+
+#![tactic(auto)]
+
 ghost use Rattle.std.specs.Prelude.{◌≡◌, length, IfOk, Some, None, Ok, Err, OnOk};
 ghost use Rattle.shelf.specs.Answers.{Became, Did, numbered, added, after_add, wiped, after_wipe};
 ghost use Rattle.masks.specs.Finding.{Blank};

@@ -2,6 +2,9 @@
 // without the signature layer. The callers that make their own shelf have no premise
 // left in their contracts; and what lies in memory once a case is opened is told word
 // by word.
+
+#![tactic(auto)]
+
 pub mod cases;
 pub mod mask_memory;
 pub mod row_memory;

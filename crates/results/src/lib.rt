@@ -2,6 +2,9 @@
 // Questions are answered by a count of the results, with nothing altered; what
 // may be placed is then placed. The resolving of two places, the defining of a
 // variable and the splitting of a place are offered to other crates.
+
+#![tactic(auto)]
+
 mod codes;
 pub mod defining;
 mod definition;

@@ -1,6 +1,9 @@
 // A shelf over lent words of 32 bits, L + 1 words for each place. Every call asks
 // all its questions before it writes, and tests a place's words before it reads
 // them, so it is safe on every value and a refused call leaves the shelf equal.
+
+#![tactic(auto)]
+
 ghost use Rattle.std.specs.Prelude.{◌≡◌, ◌+◌, ◌≤◌, length, replicate, IfOk, Some, None, Ok, Err, OnOk};
 ghost use Rattle.shelf.specs.Telling.{granted, lone_answer, told};
 ghost use Rattle.shelf.specs.Answers.{Became, Did, numbered, added, after_add, wiped, after_wipe};

@@ -1,5 +1,8 @@
 // The rules of the bench. Everything here is a definition in specs/, for a
 // reader to believe; the functions only hold what is proved about them.
+
+#![tactic(auto)]
+
 ghost use Rattle.rules.specs.Examples.{Examples};
 ghost use Rattle.rules.specs.Laws.{OnlyHeld, ShownCost};
 

@@ -1,6 +1,9 @@
 // Shelves: where a case's clauses stand. The trait says what every shelf
 // means and answers; what is done with whole places is proved once over any
 // shelf.
+
+#![tactic(auto)]
+
 pub mod literal;
 pub mod places;
 pub mod refusal;

@@ -1,6 +1,9 @@
 // A layer that stands over any shelf and is one. It keeps a signature for each of
 // the first 4,096 places below, and where the signature says that a literal does
 // not stand at a place, `holds` answers without asking the shelf below.
+
+#![tactic(auto)]
+
 ghost use Rattle.std.specs.Prelude.{◌≡◌, ℕ, ◌%◌, ◌<◌, true, false, List, [], if◌then◌else◌, Ok, Err, MatchResult, OnOk, nat_lt, slice_index};
 ghost use Rattle.shelf.specs.Answers.{Became, Did, added, after_add, after_wipe, numbered, wiped};
 ghost use Rattle.shelf.specs.Literals.{among};

@@ -2,6 +2,9 @@
 // yet. Each step has two parts: the first puts its questions from 9 on, in their
 // order, and changes nothing; the second does the step, and is exact where the
 // first granted it.
+
+#![tactic(auto)]
+
 pub mod defining;
 pub mod hardening;
 pub mod joining;

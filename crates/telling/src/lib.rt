@@ -1,4 +1,7 @@
 // How a call is told: what was asked, what was answered, and the proved cost so far.
+
+#![tactic(auto)]
+
 use bench::case::Bench;
 use cost::amounts::Slots;
 use cost::kind::CostKind;

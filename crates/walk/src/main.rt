@@ -5,6 +5,9 @@
 // be kept for it (3). A parcel that rides along needs the dock. Without the van a
 // delivery is 30 minutes late; a van that leaves the parcel behind costs 20
 // minutes; keeping the dock loses a slot. A lost slot outweighs any minutes.
+
+#![tactic(auto)]
+
 use bench::case::Bench;
 use cost::amounts::{Slots, SlotsRow};
 use ledger::cell::Cell;
