@@ -1,9 +1,9 @@
 -- A clause that was copied to scratch memory, asked whether it fits, and written
 -- to a place.
-use Rattle.std.proofs.Common.{◌≡◌, ℕ, ◌<◌, ◌≤◌, min, Bool, true, false, cond, ◌&&◌, ◌||◌, ltb, leb, List, [], ◌∷◌, length, take, Some, None, Option, sym, refl, ap, ◌∙◌, subst, arith}
+use Rattle.std.proofs.Common.{◌≡◌, ℕ, ◌<◌, ◌≤◌, min, Bool, true, false, cond, ◌||◌, leb, List, [], ◌∷◌, length, take, Some, None, sym, refl, ap, ◌∙◌, arith}
 use Rattle.std.proofs.lemmas.List.{length-map, take_all}
-use Rattle.std.proofs.lemmas.Bool.{lt-leb, le-leb, leb-true, ltb-true, and_left, and_right, and_from, and_parts}
-use Rattle.shelf.specs.Literals.{Rising, variable, none}
+use Rattle.std.proofs.lemmas.Bool.{lt-leb, le-leb, leb-true, and_left, and_right, and_from, and_parts}
+use Rattle.shelf.specs.Literals.{none}
 use Rattle.shelf.specs.Room.{vacant, Writable}
 use Rattle.shelf.specs.View.{View}
 use Rattle.shelf.specs.declared.literal.Literal.{Literal}

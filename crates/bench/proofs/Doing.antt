@@ -1,10 +1,10 @@
 -- A call asks all its questions without change and then does all that it does: so
 -- its outcome follows from the verdict, and from the effect where it is granted.
-use Rattle.std.proofs.Common.{◌≡◌, ℕ, Bool, true, false, List, ℤ, Some, None, sym, refl, ap, ◌∙◌}
+use Rattle.std.proofs.Common.{◌≡◌, ℕ, false, List, ℤ, None, ap, ◌∙◌}
 use Rattle.shelf.specs.View.{View}
 use Rattle.rules.specs.Cells.{Cell}
 use Rattle.rules.specs.Case.{Case, State, filling}
-use Rattle.rules.specs.Questions.{Question, Verdict, passes, stops, reply_of, after_reply, first_no, Answer, refused, Outcome, outcome}
+use Rattle.rules.specs.Questions.{Question, passes, stops, first_no, Answer, refused, Outcome, outcome}
 use Rattle.faults.specs.declared.fault.Fault.{Fault}
 use Rattle.faults.specs.Faults.{number_of, tier_of}
 use Rattle.bench.specs.Meaning.{Done}

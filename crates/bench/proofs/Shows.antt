@@ -1,12 +1,12 @@
 -- The verdict on a shown plan, once the first questions are affirmed.
-use Rattle.std.proofs.Common.{◌≡◌, ℕ, ◌+◌, Bool, true, false, not, ◌&&◌, List, [], ◌∷◌, length, ℤ, Ok, Err, sym, refl, ap, ◌∙◌, zero-add}
+use Rattle.std.proofs.Common.{◌≡◌, ℕ, ◌+◌, Bool, true, false, not, ◌&&◌, List, length, Ok, Err, sym, ap, ◌∙◌, zero-add}
 use Rattle.std.proofs.lemmas.Bool.{and_left, and_from}
 use Rattle.cost.specs.Reach.{Scale}
 use Rattle.ledger.specs.Bills.{Bill, billed}
 use Rattle.rules.specs.Case.{State, at_sealed}
 use Rattle.rules.specs.Filling.{ledger_long}
 use Rattle.rules.specs.Plans.{is_whole_plan}
-use Rattle.rules.specs.Questions.{Reply, Verdict, passes, stops, reply_of, after_reply, reach_reply, first_no}
+use Rattle.rules.specs.Questions.{Reply, passes, stops, reply_of, after_reply, reach_reply, first_no}
 use Rattle.rules.specs.Showing.{hard_met, partial_sums, summed, owed_in, show_questions}
 use Rattle.steps.proofs.Verdicts.{yes, no_at, told_ok, told_err}
 

@@ -1,6 +1,6 @@
 -- A step on the bench: what every step is asked first, then its own questions; and the
 -- state that each leaves, from the parts that the code wrote.
-use Rattle.std.proofs.Common.{◌≡◌, ℕ, ◌+◌, Bool, not, ◌&&◌, ◌||◌, List, [], ◌∷◌, ◌++◌, set, ℤ, sym, refl, ap, ◌∙◌, ap₂}
+use Rattle.std.proofs.Common.{◌≡◌, ℕ, ◌+◌, Bool, not, ◌&&◌, ◌||◌, List, ◌++◌, set, ℤ, refl, ap, ◌∙◌, ap₂}
 use Rattle.shelf.specs.View.{View}
 use Rattle.cost.specs.Figures.{zeros}
 use Rattle.cost.specs.Reach.{Scale}
@@ -10,7 +10,7 @@ use Rattle.ledger.specs.Dues.{Dues, dues}
 use Rattle.results.specs.Placing.{after_placing}
 use Rattle.rules.specs.Case.{Case, State, working, with_phase}
 use Rattle.rules.specs.Cells.{Cell, soft, is_hard, amounts_to_nothing, joined}
-use Rattle.rules.specs.Questions.{Question, passes, stops, first_no, Answer, granted, refused, Outcome, outcome, grants}
+use Rattle.rules.specs.Questions.{Question, passes, stops, first_no, granted, refused, Outcome, outcome, grants}
 use Rattle.rules.specs.Results.{kept, has_empty, laid, alike}
 use Rattle.rules.specs.Steps.{step_fits, worked, freed_if, cell_in, results_at, resolvents_at, resolve_done, join_done, one_more}
 use Rattle.steps.proofs.Resolved.{same_results}

@@ -1,16 +1,16 @@
 -- One place more of a plan's bill, and of the test that it meets the hard clauses:
 -- what is left of the shelf and the ledger makes up the whole.
-use Rattle.std.proofs.Common.{◌≡◌, ℕ, suc, ◌+◌, ◌<◌, ◌≤◌, min, Bool, true, false, cond, ◌&&◌, ◌||◌, List, [], ◌∷◌, map, length, get_or, drop, ℤ, Some, None, Ok, Err, Option, Result, sym, refl, ap, ◌∙◌, inl, inr, arith}
+use Rattle.std.proofs.Common.{◌≡◌, ℕ, suc, ◌+◌, ◌<◌, ◌≤◌, min, true, false, cond, ◌&&◌, List, [], ◌∷◌, length, get_or, drop, ℤ, Some, None, Ok, Err, Option, sym, refl, ap, ◌∙◌, inl, inr, arith}
 use Rattle.std.proofs.lemmas.List.{drop_more, drop_all}
 use Rattle.std.proofs.lemmas.Bool.{cases_lt}
 use Rattle.cost.specs.Figures.{plus}
-use Rattle.cost.specs.Reach.{Scale, beyond, reached}
+use Rattle.cost.specs.Reach.{Scale, reached}
 use Rattle.cost.specs.Reaching.{reached_ok, reached_err}
 use Rattle.rules.specs.Cells.{Cell, hard, soft}
 use Rattle.rules.specs.Questions.{reach_reply, unless_beyond}
 use Rattle.rules.specs.Showing.{hard_met, met_at, owed, owed_at, partial_sums, summed}
 use Rattle.ledger.specs.Dues.{told_by}
-use Rattle.ledger.specs.Bills.{vacant_or_met, owing, Bill, billed}
+use Rattle.ledger.specs.Bills.{vacant_or_met, owing, billed}
 
 abbrev prepend : Option (List ℤ) → List (List ℤ) → List (List ℤ)
 prepend None rest = rest

@@ -6,7 +6,7 @@
 --   Bill           a cost, and how many unmet soft clauses made it up
 --   billed z os n  the bill of z with the amounts os, after n others
 --   bill_told      what a result of the code means
-use Rattle.std.specs.Prelude.{ℕ, ◌+◌, Bool, cond, ◌||◌, List, [], ◌∷◌, length, ℤ, Some, None, Ok, Err, Option, Result}
+use Rattle.std.specs.Prelude.{ℕ, ◌+◌, Bool, cond, ◌||◌, List, length, ℤ, Some, None, Ok, Err, Option, Result}
 use Rattle.cost.specs.Reach.{Scale}
 use Rattle.cost.specs.declared.tier.Tier.{Tier}
 use Rattle.shelf.specs.Literals.{none}

@@ -1,8 +1,6 @@
 -- A shelf as it is made: its masks, and what it means.
-use Rattle.std.proofs.Common.{◌≡◌, ℕ, zero, suc, ◌+◌, ◌*◌, ◌/◌, ◌<◌, ◌≤◌, min, true, ltb, List, [], ◌++◌, length, get_or, take, drop, set, replicate, sym, refl, ap, ◌∙◌, ap₂, arith}
-use Rattle.std.proofs.lemmas.List.{drop_at, ext_get_or, get_or-replicate, get_or-set_same, get_or-take, length-append, length-drop, length-replicate, take_at}
-use Rattle.std.proofs.lemmas.Bool.{cond-true, ltb-true}
-use Rattle.shelf.specs.View.{View, clause}
+use Rattle.std.proofs.Common.{◌≡◌, ℕ, ◌+◌, ◌*◌, ◌/◌, ◌<◌, ◌≤◌, min, List, [], length, get_or, take, replicate, sym, ap, ◌∙◌, ap₂, arith}
+use Rattle.std.proofs.lemmas.List.{ext_get_or, get_or-replicate, get_or-take, length-replicate}
 use Rattle.masks.specs.Made.{made_view}
 use Rattle.masks.specs.Masks.{Masks, codes_of, held_in, mask_at, used}
 use Rattle.masks.specs.Soundness.{held_at, held_length}

@@ -1,6 +1,6 @@
 -- A granted open leaves a shelf of which every place is free, and so of which every
 -- word is 0: rows and masks in order are written in one way only.
-use Rattle.std.proofs.Common.{◌≡◌, ℕ, ◌≤◌, List, [], length, take, replicate, Ok, Err, Result, sym, refl, ap, ◌∙◌, arith}
+use Rattle.std.proofs.Common.{◌≡◌, ℕ, List, [], take, replicate, Ok, Err, Result, sym, ap, ◌∙◌, arith}
 use Rattle.std.proofs.lemmas.List.{length-replicate, take_all}
 use Rattle.shelf.specs.View.{View, emptied}
 use Rattle.cost.specs.Reach.{Scale}
@@ -14,7 +14,7 @@ use Rattle.rows.specs.Rows as rows
 use Rattle.rows.specs.Rows.{Rows, rows_view}
 use Rattle.rules.specs.Case.{State}
 use Rattle.rules.specs.Filling.{open_questions, open_done, open_does}
-use Rattle.rules.specs.Questions.{Verdict, passes, stops, first_no, Answer, granted, refused, Outcome, outcome, grants}
+use Rattle.rules.specs.Questions.{Verdict, passes, stops, first_no, granted, outcome, grants}
 use Rattle.bench.specs.Meaning.{granted_told, Done}
 use Rattle.faults.specs.declared.fault.Fault.{Fault}
 use Rattle.piles.specs.Memory.{Blank}

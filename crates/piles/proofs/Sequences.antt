@@ -1,9 +1,9 @@
 -- Calls one after another: what each did ties the state and the answer of the code to
 -- those of the machine, so a refusal ends the sequence and a grant goes on with it.
-use Rattle.std.proofs.Common.{◌≡◌, ℕ, List, [], ◌∷◌, ℤ, sym, refl, ap, ◌∙◌}
+use Rattle.std.proofs.Common.{◌≡◌, ℕ, List, [], ◌∷◌, ℤ, ap, ◌∙◌}
 use Rattle.bench.specs.Meaning.{Done}
 use Rattle.cost.specs.Reach.{Scale}
-use Rattle.rules.specs.Case.{Case, State}
+use Rattle.rules.specs.Case.{State}
 use Rattle.rules.specs.Machine.{Call, does}
 use Rattle.rules.specs.Questions.{Answer, granted, shown_at, refused}
 use Rattle.piles.specs.Sequence.{unless_refused, final}

@@ -5,7 +5,7 @@
 --                    state s on, else the last answer
 --   one_clause_case       the calls of a case with one variable and one soft clause
 --   one_clause_on    the same on a new bench, from what its shelf means and a ledger
-use Rattle.std.specs.Prelude.{ℕ, List, [], ◌∷◌, ℤ}
+use Rattle.std.specs.Prelude.{List, [], ◌∷◌, ℤ}
 use Rattle.cost.specs.Kinds.{Kind}
 use Rattle.cost.specs.Reach.{Scale}
 use Rattle.ledger.specs.Meaning.{cells_of}

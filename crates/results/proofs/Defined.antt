@@ -1,12 +1,12 @@
 -- The results of a definition, and of a split: each is a clause with one literal put
 -- in whose variable does not stand there, so it rises and none vanishes.
-use Rattle.std.proofs.Common.{◌≡◌, ℕ, zero, suc, ◌+◌, ◌-◌, ◌*◌, ◌/◌, ◌<◌, ◌≤◌, Bool, true, false, cond, ◌&&◌, ◌||◌, eqb, leb, List, [], ◌∷◌, length, get_or, sym, refl, ap, ◌∙◌, subst, ap₂, arith}
+use Rattle.std.proofs.Common.{◌≡◌, ℕ, zero, suc, ◌+◌, ◌-◌, ◌*◌, ◌/◌, ◌<◌, ◌≤◌, true, false, ◌&&◌, eqb, leb, List, [], ◌∷◌, length, get_or, refl, ap, ◌∙◌, arith}
 use Rattle.std.proofs.lemmas.List.{get_or_past}
 use Rattle.std.proofs.lemmas.Bool.{le-leb, lt-leb, eqb-false, ne_eqb, or_parts, or_from, and_left, and_from}
 use Rattle.shelf.specs.Literals.{opposite, Rising, stands, put, none}
 use Rattle.rules.specs.Clauses.{vanishes}
 use Rattle.rules.specs.Results.{halves, implied, defining, kept, short_enough}
-use Rattle.results.specs.Spread.{Spread, AllSpread}
+use Rattle.results.specs.Spread.{AllSpread}
 use Rattle.results.proofs.Putting.{length-put, rising_put, rising_clean}
 use Rattle.results.proofs.Shapes.{spread_first}
 

@@ -1,11 +1,11 @@
 -- A split, call by call: the variable is added at the place, the clause is copied to
 -- the other place, and the opposite is added there.
-use Rattle.std.proofs.Common.{◌≡◌, ℕ, ◌+◌, ◌*◌, ◌/◌, ◌<◌, ◌≤◌, Bool, true, false, cond, not, ◌&&◌, ltb, leb, List, [], ◌∷◌, length, get_or, set, is_ok, Ok, Err, Result, sym, refl, ap, ◌∙◌, subst, arith}
+use Rattle.std.proofs.Common.{◌≡◌, ℕ, ◌+◌, ◌*◌, ◌/◌, ◌<◌, ◌≤◌, Bool, true, false, cond, not, ltb, List, [], length, set, is_ok, Ok, Result, sym, refl, ap, ◌∙◌, arith}
 use Rattle.std.proofs.lemmas.List.{get_or-set_same, get_or-set_other, set-set, length-set}
 use Rattle.std.proofs.lemmas.Bool.{ltb-true, lt-ltb, le-leb, and_parts, and_from}
-use Rattle.shelf.specs.Literals.{Rising, stands, put, none}
+use Rattle.shelf.specs.Literals.{stands, put, none}
 use Rattle.shelf.specs.View.{View, Sound, clause, with_held}
-use Rattle.shelf.specs.Room.{filled, vacant, Writable}
+use Rattle.shelf.specs.Room.{Writable}
 use Rattle.shelf.specs.Answers.{added, after_add}
 use Rattle.rules.specs.Steps.{split_view}
 use Rattle.results.specs.Splitting.{Splittable}

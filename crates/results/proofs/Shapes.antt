@@ -1,6 +1,6 @@
 -- What stays rising. A merge keeps the codes rising, and where no literal stands
 -- with its opposite the variables rise too.
-use Rattle.std.proofs.Common.{◌≡◌, ℕ, zero, suc, ◌+◌, ◌-◌, ◌*◌, ◌/◌, ◌<◌, ◌≤◌, Bool, true, false, cond, eqb, List, [], ◌∷◌, get_or, sym, subst, inl, inr, arith}
+use Rattle.std.proofs.Common.{◌≡◌, ℕ, zero, suc, ◌+◌, ◌*◌, ◌/◌, ◌<◌, ◌≤◌, Bool, true, false, cond, eqb, List, [], ◌∷◌, get_or, sym, subst, inl, inr, arith}
 use Rattle.std.proofs.lemmas.Bool.{lt-ltb, le-ltb, eq-eqb, ne_eqb, eqb-false, or_parts, cases_order, cases_eq}
 use Rattle.shelf.specs.Literals.{opposite, Rising, among}
 use Rattle.rules.specs.Clauses.{without, into, merge, compensations, vanishes}

@@ -1,14 +1,14 @@
 -- A shelf as it is made: its rows, and what it means.
-use Rattle.std.proofs.Common.{◌≡◌, ℕ, ◌+◌, ◌*◌, ◌/◌, ◌<◌, ◌≤◌, min, Bool, true, false, cond, ◌&&◌, ltb, leb, List, [], ◌++◌, length, get_or, take, drop, set, replicate, sym, ap, ◌∙◌, subst, arith}
+use Rattle.std.proofs.Common.{◌≡◌, ℕ, ◌+◌, ◌*◌, ◌/◌, ◌<◌, ◌≤◌, min, Bool, true, false, cond, ◌&&◌, leb, List, [], length, take, replicate, sym, ap, ◌∙◌, subst, arith}
 use Rattle.std.proofs.lemmas.Nat.{mul-le, div-add-mod'}
-use Rattle.std.proofs.lemmas.List.{get_or-replicate, get_or-set_same, length-replicate, length-append, length-drop, ext_get_or, take_at, drop_at}
-use Rattle.std.proofs.lemmas.Bool.{cond-true, le-leb, ltb-true, and_from}
-use Rattle.shelf.specs.View.{View, clause}
+use Rattle.std.proofs.lemmas.List.{get_or-replicate, length-replicate, ext_get_or}
+use Rattle.std.proofs.lemmas.Bool.{le-leb, and_from}
+use Rattle.shelf.specs.View.{View}
 use Rattle.rows.specs.Made.{in_limits, made_view}
 use Rattle.rows.specs.Rows.{Row, Rows, codes_of, held_in, row_at, used}
 use Rattle.rows.specs.Soundness.{held_length, held_at}
 use Rattle.rows.proofs.Rowing.{rows_apart}
-use Rattle.rows.proofs.Writings.{repeats_at, zeros_codes, zeros_row, zeros_row_at}
+use Rattle.rows.proofs.Writings.{zeros_codes, zeros_row, zeros_row_at}
 
 -- there is room for as many rows as the division gives
 pub rows_fit : (n w P : ℕ) → P ≤ n / w → P * w ≤ n

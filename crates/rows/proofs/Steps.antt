@@ -1,8 +1,8 @@
 -- What the methods find and change, over the measures and the words.
-use Rattle.std.proofs.Common.{◌≡◌, ℕ, ◌+◌, ◌-◌, ◌*◌, ◌/◌, ◌<◌, ◌≤◌, Bool, true, false, cond, ◌&&◌, ltb, leb, List, [], length, get_or, take, drop, set, replicate, is_ok, Ok, Err, Result, sym, refl, ap, ◌∙◌, subst, arith}
+use Rattle.std.proofs.Common.{◌≡◌, ℕ, ◌+◌, ◌-◌, ◌*◌, ◌/◌, ◌<◌, ◌≤◌, true, false, ◌&&◌, ltb, leb, List, [], length, get_or, take, drop, set, replicate, is_ok, Ok, sym, ap, ◌∙◌, subst, arith}
 use borrow.Rule.Slice.PartMut.{put_mid}
 use Rattle.std.proofs.lemmas.List.{get_or_past, set_past}
-use Rattle.std.proofs.lemmas.Bool.{cond-true, lt-ltb, le-leb, leb-true, and_from, and_parts, both_ways}
+use Rattle.std.proofs.lemmas.Bool.{cond-true, lt-ltb, le-leb, and_from}
 use Rattle.shelf.proofs.Adding.{added_ok}
 use Rattle.shelf.specs.Answers.{Became, added, after_add, fitted, after_wipe}
 use Rattle.shelf.specs.Literals.{Rising, put, stands}

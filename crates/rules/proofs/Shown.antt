@@ -5,9 +5,9 @@ use Rattle.shelf.specs.Literals.{none}
 use Rattle.cost.proofs.Groups.{plus_assoc, plus_length, plus_zeros}
 use Rattle.cost.specs.Figures.{zeros, plus}
 use Rattle.rules.specs.Cells.{Cell, hard, soft, Weighted}
-use Rattle.rules.specs.Plans.{meets, cost, allowed, hard_is_met, unmet_cost}
+use Rattle.rules.specs.Plans.{meets, cost, allowed}
 use Rattle.rules.specs.Showing.{hard_met, met_at, owed, owed_at, summed}
-use Rattle.rules.specs.Laws.{on_shelf, Tiered, Figured}
+use Rattle.rules.specs.Laws.{on_shelf, Tiered}
 
 -- the sum of a list of amounts, from the right
 total : ℕ → List (List ℤ) → List ℤ

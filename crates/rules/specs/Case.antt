@@ -10,10 +10,10 @@
 --   cell_at      the cell of a place; soft with nothing past the ledger's end
 --   known        the highest variable that a literal may have: at most the
 --                case's number and at most the shelf's
-use Rattle.std.specs.Prelude.{ℕ, min, Bool, true, false, List, ℤ, Some, None, Option, slice_index_or}
+use Rattle.std.specs.Prelude.{ℕ, min, Bool, true, false, List, ℤ, None, Option, slice_index_or}
 use Rattle.shelf.specs.View.{View}
 use Rattle.cost.specs.Figures.{zeros}
-use Rattle.rules.specs.Cells.{Cell, hard, soft}
+use Rattle.rules.specs.Cells.{Cell, soft}
 
 pub data Phase : Type 0 where
   idle : Phase

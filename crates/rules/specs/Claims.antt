@@ -1,7 +1,7 @@
 -- The two claims. A granted claim closes the case.
 --
 --   costs_equal   question 16: whether the proved cost is the shown plan's
-use Rattle.std.specs.Prelude.{ℕ, Bool, false, List, [], ◌∷◌, ◌++◌, ℤ, Some, None, Option}
+use Rattle.std.specs.Prelude.{Bool, false, List, [], ◌∷◌, ◌++◌, ℤ, Some, None, Option}
 use Rattle.std.specs.Ordering.{is_eq}
 use Rattle.cost.specs.Figures.{order}
 use Rattle.rules.specs.Case.{State, closed, with_phase}

@@ -10,7 +10,7 @@
 --                 mark set, or with other sums
 --   X-questions, X-done, X-does   the questions of a call, the state once it is
 --                 granted, and its outcome
-use Rattle.std.specs.Prelude.{ℕ, Bool, true, false, cond, not, ◌&&◌, ◌||◌, List, [], ◌∷◌, ◌++◌, length, set, replicate, ℤ, pos, ◌==◌, int_le, nat_le, slice_set}
+use Rattle.std.specs.Prelude.{ℕ, Bool, true, cond, not, ◌&&◌, ◌||◌, List, [], ◌∷◌, ◌++◌, length, replicate, ℤ, pos, ◌==◌, int_le, nat_le, slice_set}
 use Rattle.std.specs.Ordering.{is_eq}
 use Rattle.shelf.specs.Literals.{none}
 use Rattle.shelf.specs.Room.{vacant}

@@ -9,7 +9,7 @@
 -- The amounts given are in reach together, so in a case whose ledger nobody else
 -- has changed no partial sum is out of reach; where one is, the show is refused
 -- with 13 and the tier.
-use Rattle.std.specs.Prelude.{ℕ, Bool, true, false, cond, not, ◌&&◌, ◌||◌, List, [], ◌∷◌, length, ℤ, Some, None}
+use Rattle.std.specs.Prelude.{ℕ, Bool, true, cond, not, ◌&&◌, ◌||◌, List, [], ◌∷◌, length, ℤ, Some}
 use Rattle.shelf.specs.Literals.{none}
 use Rattle.cost.specs.Figures.{plus}
 use Rattle.cost.specs.Reach.{Scale}

@@ -1,5 +1,5 @@
 -- Places freed one after another: after p turns the first p are free.
-use Rattle.std.proofs.Common.{◌≡◌, ℕ, zero, suc, ◌+◌, ◌<◌, ◌≤◌, ◌≢◌, ◌⊎◌, List, [], ◌∷◌, length, get_or, set, replicate, sym, refl, ap, ◌∙◌, inl, inr, ⊎_elim, arith}
+use Rattle.std.proofs.Common.{◌≡◌, ℕ, ◌+◌, ◌<◌, ◌≤◌, List, [], length, get_or, set, replicate, sym, ap, ◌∙◌, inl, inr, arith}
 use Rattle.shelf.specs.View.{View, Sound, with_held, clause, emptied}
 use Rattle.shelf.specs.Answers.{after_wipe}
 use Rattle.std.proofs.lemmas.List.{get_or-set_same, get_or-set_other, get_or_past, set_past, ext_get_or, get_or-replicate, length-replicate}

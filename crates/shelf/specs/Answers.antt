@@ -12,7 +12,7 @@
 --   after_add, after_wipe   what is held then; a refusal leaves all as it was
 --   after_adds    what is held after a list of codes has been added to one place
 --   Did, Became   what a call that may change a shelf did, with and without an answer
-use Rattle.std.specs.Prelude.{◌≡◌, ℕ, Bool, cond, ◌&&◌, List, [], ◌∷◌, length, is_ok, Ok, Err, Result, nat_le, nat_lt, slice_set}
+use Rattle.std.specs.Prelude.{◌≡◌, ℕ, cond, ◌&&◌, List, [], ◌∷◌, length, is_ok, Ok, Err, Result, nat_le, nat_lt, slice_set}
 use Rattle.shelf.specs.declared.refusal.Refusal.{Refusal}
 use Rattle.shelf.specs.declared.refusal.Refusal.TheVariants.{NoSuchPlace, NoSuchVariable, VariableStands, ClauseFull}
 use Rattle.shelf.specs.Literals.{variable, stands, put}

@@ -3,7 +3,7 @@ use Rattle.std.proofs.Common.{◌≡◌, ℕ, ◌+◌, ◌<◌, ◌≤◌, Bool,
 use Rattle.std.proofs.lemmas.Bool.{lt-ltb, ltb-true, and_left, and_from, and_parts, cases_lt}
 use Rattle.shelf.specs.Literals.{Rising, stands, none}
 use Rattle.shelf.specs.Room.{roomy}
-use Rattle.shelf.specs.View.{View, Sound}
+use Rattle.shelf.specs.View.{View}
 use Rattle.clauses.proofs.Turns.{rising}
 use Rattle.results.specs.Definition.{Definable}
 use Rattle.results.specs.Placing.{Placeable}
@@ -11,7 +11,7 @@ use Rattle.results.proofs.Defined.{kept_defining, short_defining, long_defining}
 use Rattle.results.proofs.Putting.{stands_above}
 use Rattle.rules.specs.Case.{known}
 use Rattle.rules.specs.Clauses.{rises}
-use Rattle.rules.specs.Questions.{Verdict, passes, stops, first_no}
+use Rattle.rules.specs.Questions.{passes, stops, first_no}
 use Rattle.rules.specs.Results.{defining, kept, short_enough}
 use Rattle.rules.specs.Steps.{define_asks}
 use Rattle.steps.proofs.Verdicts.{yes, no_at, yes_then}

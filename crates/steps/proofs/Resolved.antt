@@ -1,6 +1,6 @@
 -- The verdict on a resolve: its sources, its results, and the new amounts, each part
 -- put only where the ones before were affirmed.
-use Rattle.std.proofs.Common.{◌≡◌, ℕ, ◌+◌, ◌*◌, Bool, true, not, ◌&&◌, ◌||◌, List, [], ◌∷◌, ◌++◌, length, set, ℤ, Ok, Err, Result, sym, ap, ◌∙◌, ap₂}
+use Rattle.std.proofs.Common.{◌≡◌, ℕ, ◌+◌, ◌*◌, Bool, not, ◌&&◌, List, [], ◌∷◌, ◌++◌, length, ℤ, Ok, Err, Result, sym, ap, ◌∙◌, ap₂}
 use Rattle.shelf.specs.Literals.{among}
 use Rattle.shelf.specs.Room.{filled, roomy}
 use Rattle.shelf.specs.View.{View, clause}

@@ -1,6 +1,6 @@
 -- The verdict on a split, and that a granted one may be done.
 use Rattle.std.proofs.Common.{◌≡◌, ℕ, ◌+◌, ◌*◌, ◌/◌, ◌<◌, ◌≤◌, Bool, true, false, not, ◌&&◌, ◌||◌, eqb, leb, List, [], ◌∷◌, length, sym, refl, ap, ◌∙◌, ap₂, inl, inr, arith}
-use Rattle.std.proofs.lemmas.Bool.{le-leb, leb-true, eq-eqb, ne_eqb, and_from, and_right, and_parts, cases_eq, cases_lt}
+use Rattle.std.proofs.lemmas.Bool.{le-leb, leb-true, eq-eqb, ne_eqb, and_right, and_parts, cases_eq, cases_lt}
 use Rattle.shelf.specs.Literals.{among, stands}
 use Rattle.shelf.specs.Room.{filled, vacant, roomy}
 use Rattle.shelf.specs.View.{View, Sound, clause}

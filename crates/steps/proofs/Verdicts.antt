@@ -1,5 +1,5 @@
 -- Verdicts of questions that are put in two parts, and replies about new amounts.
-use Rattle.std.proofs.Common.{◌≡◌, ℕ, Bool, true, false, cond, List, [], ◌∷◌, ◌++◌, Some, None, Ok, Err, Option, Result, sym, refl, ap, ◌∙◌}
+use Rattle.std.proofs.Common.{◌≡◌, ℕ, Bool, true, false, cond, List, [], ◌∷◌, ◌++◌, Some, None, Ok, Err, sym, refl, ap, ◌∙◌}
 use Rattle.rules.specs.Questions.{Reply, affirmed, denied, beyond_tier, Question, Verdict, passes, stops, reply_of, after_reply, first_no}
 use Rattle.ledger.specs.Dues.{told_by}
 

@@ -1,4 +1,4 @@
-use Rattle.std.proofs.Common.{◌≡◌, ℕ, ◌+◌, ◌/◌, ◌<◌, length, get_or, drop, sym, ap, ◌∙◌, subst, arith}
+use Rattle.std.proofs.Common.{ℕ, ◌+◌, ◌/◌, drop, sym, ap, ◌∙◌, arith}
 use Rattle.rules.specs.Clauses.{rises}
 use Rattle.clauses.specs.Codes.{codes}
 use Rattle.clauses.proofs.Turns.{code_at, codes_length, rises_low, rises_high, rises_more, rises_done}

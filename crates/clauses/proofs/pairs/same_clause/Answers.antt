@@ -1,4 +1,4 @@
-use Rattle.std.proofs.Common.{◌≡◌, sym, ◌∙◌, arith}
+use Rattle.std.proofs.Common.{sym, ◌∙◌, arith}
 use Rattle.rules.specs.Clauses.{same_codes}
 use Rattle.shelf.specs.View.{clause}
 use Rattle.clauses.proofs.Turns.{same_stop, same_more, same_done, unequal}

@@ -1,4 +1,4 @@
-use Rattle.std.proofs.Common.{◌≡◌, ℕ, Bool, true, sym, ap, ◌∙◌, arith}
+use Rattle.std.proofs.Common.{sym, ap, ◌∙◌, arith}
 use Rattle.rules.specs.Plans.{makes_true, meets}
 use Rattle.shelf.specs.View.{clause}
 use Rattle.clauses.proofs.Turns.{meets_here, meets_more, meets_none}

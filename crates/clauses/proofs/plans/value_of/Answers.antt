@@ -1,4 +1,4 @@
-use Rattle.std.proofs.Common.{◌≡◌, ℕ, ◌-◌, Bool, cond, get_or, sym, ap, ◌∙◌}
+use Rattle.std.proofs.Common.{◌-◌, Bool, cond, get_or, sym, ap, ◌∙◌}
 use Rattle.std.proofs.lemmas.List.{get_or_past}
 use Rattle.std.proofs.lemmas.Bool.{ne_eqb}
 use Rattle.clauses.proofs.plans.value_of.Goals as goal

@@ -1,4 +1,4 @@
-use Rattle.std.proofs.Common.{◌≡◌, sym, ap, ◌∙◌}
+use Rattle.std.proofs.Common.{sym, ap, ◌∙◌}
 use Rattle.cost.specs.Figures.{zeros, plus}
 use Rattle.cost.proofs.Groups as group
 use Rattle.cost.proofs.laws.figures_stand.Goals as goal

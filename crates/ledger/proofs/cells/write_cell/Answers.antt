@@ -1,4 +1,4 @@
-use Rattle.std.proofs.Common.{◌≡◌, ◌≤◌, length, set, sym, ap, ◌∙◌}
+use Rattle.std.proofs.Common.{◌≤◌, length, set, sym, ap, ◌∙◌}
 use Rattle.std.proofs.lemmas.List.{map-set, set_past, length-map}
 use Rattle.rules.specs.Cells.{Cell}
 use Rattle.ledger.specs.Meaning.{cell_of, cells_of, written}

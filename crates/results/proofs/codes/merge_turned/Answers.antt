@@ -1,5 +1,4 @@
 use Rattle.std.proofs.Common.{◌≡◌, length, set, ap, ◌∙◌, arith}
-use Rattle.shelf.specs.Literals.{opposite}
 use Rattle.rules.specs.Clauses.{merge}
 use Rattle.results.specs.Turned.{turned}
 use Rattle.results.proofs.Merging.{turned_first, turned_none}

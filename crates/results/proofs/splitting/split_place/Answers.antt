@@ -1,5 +1,5 @@
 use Rattle.std.proofs.Common.{◌≡◌, ℕ, List, take, set, sym, ap, ◌∙◌, subst}
-use Rattle.shelf.specs.View.{View, clause, with_held}
+use Rattle.shelf.specs.View.{View, with_held}
 use Rattle.shelf.specs.Answers.{after_add}
 use Rattle.shelf.specs.Room.{Writable}
 use Rattle.shelf.proofs.Writing.{adds_frame}

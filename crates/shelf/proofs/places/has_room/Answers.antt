@@ -1,4 +1,4 @@
-use Rattle.std.proofs.Common.{◌≡◌, sym, ◌∙◌, arith}
+use Rattle.std.proofs.Common.{◌∙◌, arith}
 use Rattle.shelf.proofs.Writing.{roomy_more, roomy_stop, roomy_done, past_not, taken_not}
 use Rattle.shelf.proofs.places.has_room.Goals as goal
 

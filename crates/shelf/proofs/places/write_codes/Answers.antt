@@ -1,4 +1,4 @@
-use Rattle.std.proofs.Common.{◌≡◌, ◌+◌, drop, sym, refl, ap, ◌∙◌, arith}
+use Rattle.std.proofs.Common.{◌+◌, drop, refl, ap, ◌∙◌, arith}
 use Rattle.shelf.specs.Answers.{after_adds}
 use Rattle.shelf.specs.View.{View}
 use Rattle.shelf.proofs.Writing.{part_none, part-more, part_done, adds_more, adds_done}

@@ -1,4 +1,4 @@
-use Rattle.std.proofs.Common.{◌≡◌, ℕ, ◌+◌, true, length, sym, refl, ap, ◌∙◌, arith}
+use Rattle.std.proofs.Common.{◌≡◌, ℕ, ◌+◌, true, sym, refl, ap, ◌∙◌, arith}
 use Rattle.clauses.specs.Codes.{codes}
 use Rattle.clauses.proofs.Turns.{codes_length}
 use Rattle.rules.specs.Clauses.{rises}

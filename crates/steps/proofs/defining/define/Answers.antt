@@ -1,4 +1,4 @@
-use Rattle.std.proofs.Common.{◌≡◌, ℕ, ◌+◌, List, sym, refl, ap, ◌∙◌, subst}
+use Rattle.std.proofs.Common.{ℕ, ◌+◌, refl, ap, ◌∙◌, subst}
 use Rattle.clauses.specs.Codes.{codes}
 use Rattle.ledger.specs.Meaning.{cell_of, cells_of}
 use Rattle.ledger.specs.declared.cell.Cell.TheVariants.{Hard}

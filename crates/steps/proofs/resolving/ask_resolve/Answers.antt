@@ -1,4 +1,4 @@
-use Rattle.std.proofs.Common.{◌≡◌, ℕ, not, List, sym, ap, ◌∙◌}
+use Rattle.std.proofs.Common.{ℕ, not, List, ap, ◌∙◌}
 use Rattle.std.proofs.lemmas.Result.{err_from_is_err_and}
 use Rattle.rules.specs.Cells.{is_hard}
 use Rattle.rules.specs.Questions.{first_no}

@@ -1,4 +1,4 @@
-use Rattle.std.proofs.Common.{◌≡◌, List, set, sym, ap, ◌∙◌}
+use Rattle.std.proofs.Common.{List, set, ap, ◌∙◌}
 use Rattle.shelf.specs.View.{View}
 use Rattle.ledger.specs.Meaning.{cell_of, cells_of}
 use Rattle.rules.specs.Cells.{Cell, amounts_to_nothing}

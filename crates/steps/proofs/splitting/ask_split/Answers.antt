@@ -1,4 +1,4 @@
-use Rattle.std.proofs.Common.{◌≡◌, sym, ◌∙◌, arith}
+use Rattle.std.proofs.Common.{sym, ◌∙◌, arith}
 use Rattle.steps.proofs.Splits.{split_long, split_crowded, split_passes}
 use Rattle.steps.proofs.splitting.ask_split.Goals as goal
 

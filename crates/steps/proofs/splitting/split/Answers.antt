@@ -1,4 +1,4 @@
-use Rattle.std.proofs.Common.{◌≡◌, List, set, ap, ◌∙◌}
+use Rattle.std.proofs.Common.{set, ap, ◌∙◌}
 use Rattle.ledger.specs.Meaning.{cells_of}
 use Rattle.rules.specs.Cells.{Cell}
 use Rattle.steps.proofs.Splits.{splittable}

@@ -1,4 +1,4 @@
-use Rattle.std.proofs.Common.{◌≡◌, ℕ, sym, ap, ◌∙◌, arith}
+use Rattle.std.proofs.Common.{ℕ, sym, ap, ◌∙◌, arith}
 use Rattle.shelf.specs.Literals.{among}
 use Rattle.shelf.specs.View.{clause}
 use Rattle.steps.proofs.Splits.{held_not_new, new_told}

@@ -1,4 +1,4 @@
-use Rattle.std.proofs.Common.{◌≡◌, eqb, List, length, ℤ, sym, ap, ◌∙◌}
+use Rattle.std.proofs.Common.{eqb, length, ap}
 use Rattle.std.proofs.lemmas.Result.{err_from_is_err_and}
 use Rattle.clauses.specs.Codes.{codes}
 use Rattle.cost.specs.Figures.{plus}

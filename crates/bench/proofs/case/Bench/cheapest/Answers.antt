@@ -1,4 +1,4 @@
-use Rattle.std.proofs.Common.{◌≡◌, refl}
+use Rattle.std.proofs.Common.{refl}
 use Rattle.std.proofs.lemmas.Result.{err_from_is_err_and}
 use Rattle.rules.specs.Claims.{ended, cheapest_questions, cheapest_does}
 use Rattle.rules.specs.Questions.{Outcome, cheapest_at}

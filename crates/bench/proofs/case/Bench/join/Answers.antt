@@ -1,4 +1,4 @@
-use Rattle.std.proofs.Common.{◌≡◌, sym, refl, ap, ◌∙◌}
+use Rattle.std.proofs.Common.{refl}
 use Rattle.std.proofs.lemmas.Result.{err_from_is_err_and}
 use Rattle.rules.specs.Steps.{worked, cell_in, join_asks, join_done, join_does}
 use Rattle.bench.proofs.Stepping.{refused_first, refused_then, step_granted, joined_state}

@@ -1,12 +1,8 @@
-use Rattle.std.proofs.Common.{◌≡◌, List, ℤ, sym, refl, ap, ◌∙◌}
+use Rattle.std.proofs.Common.{refl}
 use Rattle.std.proofs.lemmas.Result.{err_from_is_err_and}
-use Rattle.shelf.specs.View.{View, emptied}
-use Rattle.cost.specs.Figures.{zeros}
-use Rattle.rules.specs.Case.{State, opened_case}
-use Rattle.rules.specs.Cells.{Cell}
 use Rattle.rules.specs.Filling.{open_questions, open_done, open_does}
 use Rattle.rules.specs.Questions.{grants}
-use Rattle.bench.specs.Meaning.{case_of, state_of}
+use Rattle.bench.specs.Meaning.{state_of}
 use Rattle.bench.proofs.Doing.{refusing, granting, opened}
 use Rattle.bench.proofs.case.Bench.open.Goals as goal
 

@@ -1,7 +1,7 @@
-use Rattle.std.proofs.Common.{◌≡◌, sym, refl, ap, ◌∙◌, ap₂}
+use Rattle.std.proofs.Common.{refl, ap, ap₂}
 use Rattle.std.proofs.lemmas.Result.{err_from_is_err_and}
 use Rattle.rules.specs.Questions.{shown_at}
-use Rattle.rules.specs.Showing.{owed_in, show_questions, show_done, show_does, with_shown}
+use Rattle.rules.specs.Showing.{show_questions, show_done, show_does, with_shown}
 use Rattle.bench.specs.Meaning.{state_of}
 use Rattle.bench.proofs.Doing.{refusing, granting, same_state}
 use Rattle.bench.proofs.case.Bench.show.Goals as goal

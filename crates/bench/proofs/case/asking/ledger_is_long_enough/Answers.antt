@@ -1,4 +1,4 @@
-use Rattle.std.proofs.Common.{◌≡◌, ℕ, leb, length, sym, ap, ◌∙◌}
+use Rattle.std.proofs.Common.{ℕ, leb, length, sym, ap, ◌∙◌}
 use Rattle.std.proofs.lemmas.List.{length-map}
 use Rattle.ledger.specs.Meaning.{cell_of}
 use Rattle.bench.proofs.case.asking.ledger_is_long_enough.Goals as goal

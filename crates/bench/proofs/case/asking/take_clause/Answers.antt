@@ -1,4 +1,4 @@
-use Rattle.std.proofs.Common.{◌≡◌, ℕ, ◌≤◌, List, length, sym, ap, ◌∙◌, arith}
+use Rattle.std.proofs.Common.{ℕ, ◌≤◌, length, sym, ap, ◌∙◌, arith}
 use Rattle.clauses.specs.Codes.{codes}
 use Rattle.clauses.proofs.Turns.{codes_length}
 use Rattle.rules.specs.Clauses.{rises}

@@ -1,4 +1,4 @@
-use Rattle.std.proofs.Common.{◌≡◌, length, ap, arith}
+use Rattle.std.proofs.Common.{length, ap, arith}
 use Rattle.results.specs.Parents.{codes_of}
 use Rattle.results.proofs.Defined.{length_implied}
 use Rattle.results.proofs.definition.DefinitionListed.count.Goals as goal
