@@ -12,7 +12,8 @@ use Rattle.rules.specs.Case.{Case, State, working, with_phase}
 use Rattle.rules.specs.Cells.{Cell, soft, is_hard, amounts_to_nothing, joined}
 use Rattle.rules.specs.Questions.{Question, passes, stops, first_no, granted, refused, Outcome, outcome, grants}
 use Rattle.rules.specs.Results.{kept, has_empty, laid, alike}
-use Rattle.rules.specs.Steps.{step_fits, worked, freed_if, cell_in, results_at, resolvents_at, resolve_done, join_done, one_more}
+use Rattle.rules.specs.Steps.{step_fits, worked, freed_if, cell_in, results_at, resolve_done, join_done, one_more}
+use Rattle.results.specs.Resolving.{resolvents_at}
 use Rattle.steps.proofs.Resolved.{same_results}
 use Rattle.steps.proofs.Verdicts.{stop_early, go_on}
 use Rattle.steps.specs.Asked.{left_view, left_cells}

@@ -9,7 +9,7 @@
 --                 refused first, with tier 0
 --   Within k xs   xs has the scale's length and is in reach
 use Rattle.std.specs.Prelude.{◌≡◌, ℕ, ◌+◌, Bool, true, false, cond, ◌&&◌, List, [], ◌∷◌, length, ℤ, pos, neg_ℤ, ◌≤ℤ◌, Some, None, Ok, Err, Option, Result, ◌==◌, int_le}
-use Rattle.std.specs.List.{AllByRecursion as All}
+use Rattle.std.specs.List.{AllByRecursion}
 
 pub record Scale : Type 0 where
   pub tiers : ℕ
@@ -47,4 +47,4 @@ abbrev pub Near : ℕ → ℤ → Type 0
 Near R x = (neg_ℤ (pos R) ≤ℤ x) × (x ≤ℤ pos R)
 
 abbrev pub Within : Scale → List ℤ → Type 0
-Within k xs = (length xs ≡ k.tiers) × All (Near k.reach) xs
+Within k xs = (length xs ≡ k.tiers) × AllByRecursion (Near k.reach) xs

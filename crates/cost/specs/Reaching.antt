@@ -5,7 +5,7 @@ use Rattle.std.specs.Prelude.{◌≡◌, ℕ, zero, suc, ◌+◌, ◌<◌, Bool,
 use Rattle.std.proofs.Common.{sym, ap, ◌∙◌, inl, inr, arith}
 use Rattle.std.proofs.lemmas.Int.{ints}
 use Rattle.std.proofs.lemmas.Bool.{cases_Bool}
-use Rattle.std.specs.List.{AllByRecursion as All}
+use Rattle.std.specs.List.{AllByRecursion}
 use Rattle.cost.specs.Laws.{ReachTells}
 use Rattle.cost.specs.Reach.{Scale, near, Near, beyond, beyond_from, unless, reached, Within}
 
@@ -15,7 +15,7 @@ near_true R x p = grind (arith, ints)
 pub near_parts : (R : ℕ) (x : ℤ) → near R x ≡ true → Near R x
 near_parts R x e = (grind (arith, ints), grind (arith, ints))
 
-all_near : (R t : ℕ) (xs : List ℤ) → All (Near R) xs → beyond_from R t xs ≡ None
+all_near : (R t : ℕ) (xs : List ℤ) → AllByRecursion (Near R) xs → beyond_from R t xs ≡ None
 all_near R t [] h = refl
 all_near R t (x ∷ xs) h = ap (λ b. cond b (beyond_from R (t + 1) xs) (Some t)) (near_true R x h.0) ∙ all_near R (t + 1) xs h.1
 
@@ -23,7 +23,7 @@ first_near : (b : Bool) (o : Option ℕ) (t : ℕ) → cond b o (Some t) ≡ Non
 first_near true o t e = (refl, e)
 first_near false o t e = absurd (let z : ◌≡◌ {A = ℕ} 0 1 = cc in omega arith)
 
-near_all : (R t : ℕ) (xs : List ℤ) → beyond_from R t xs ≡ None → All (Near R) xs
+near_all : (R t : ℕ) (xs : List ℤ) → beyond_from R t xs ≡ None → AllByRecursion (Near R) xs
 near_all R t [] e = tt
 near_all R t (x ∷ xs) e =
     let h = first_near (near R x) (beyond_from R (t + 1) xs) t e in

@@ -17,7 +17,7 @@ use Rattle.rules.specs.Filling.{open_questions, open_done, open_does}
 use Rattle.rules.specs.Questions.{Verdict, passes, stops, first_no, granted, outcome, grants}
 use Rattle.bench.specs.Meaning.{granted_told, Done}
 use Rattle.faults.specs.declared.fault.Fault.{Fault}
-use Rattle.piles.specs.Memory.{Blank}
+use Rattle.piles.specs.Memory.{Blank, BlankMasks}
 
 freed : (s t u : State) (v : Verdict) → granted ≡ (outcome v s (grants u)).answer → t ≡ (outcome v s (grants u)).after → t ≡ u
 freed s t u passes a h = h
@@ -43,7 +43,7 @@ zero_rows P V L ws r e =
     rows_writing P V L ws (replicate u 0) r f.0 (ap (λ (h : List (List ℕ)). record { places = P; highest = V; longest = L; held = h; remainder = [] }) (e ∙ sym f.1)) ∙ all
 
 pub blank_rows : {F : Type 0} (k : Scale) (s t : State) (n : ℕ) (r : Result (Unit {0}) Fault) (P V L : ℕ) (ws : List ℕ) → Rows P V L ws → t.shelf ≡ rows_view P V L ws
-    → Done F (granted_told r) t (open_does k s n) → Blank r ws (rows.used P L)
+    → Done F (granted_told r) t (open_does k s n) → Blank r ws P L
 blank_rows k s t n (Ok u) P V L ws rs e d = zero_rows P V L ws rs (emptied_held k s t n (rows_view P V L ws) e d)
 blank_rows k s t n (Err x) P V L ws rs e d = tt
 
@@ -56,6 +56,6 @@ zero_masks P ws m e =
     masks_writing P ws (replicate u 0) m f.0 (ap (λ (h : List (List ℕ)). record { places = P; highest = 64; longest = 64; held = h; remainder = [] }) (e ∙ sym f.1)) ∙ all
 
 pub blank_masks : {F : Type 0} (k : Scale) (s t : State) (n : ℕ) (r : Result (Unit {0}) Fault) (P : ℕ) (ws : List ℕ) → Masks P ws → t.shelf ≡ masks_view P ws
-    → Done F (granted_told r) t (open_does k s n) → Blank r ws (masks.used P)
+    → Done F (granted_told r) t (open_does k s n) → BlankMasks r ws P
 blank_masks k s t n (Ok u) P ws ms e d = zero_masks P ws ms (emptied_held k s t n (masks_view P ws) e d)
 blank_masks k s t n (Err x) P ws ms e d = tt

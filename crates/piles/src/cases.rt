@@ -4,7 +4,9 @@ ghost use Rattle.std.specs.Prelude.{◌≡◌, length};
 ghost use Rattle.bench.specs.Meaning.{cheapest_told};
 ghost use Rattle.cost.specs.Kinds.{Kind};
 ghost use Rattle.masks.specs.Made.{made_view as made_masks};
-ghost use Rattle.piles.specs.Sequence.{one_clause_on};
+ghost use Rattle.piles.specs.Sequence.{one_clause_case, one_clause_on};
+ghost use Rattle.ledger.specs.Meaning.{cells_of};
+ghost use Rattle.rules.specs.Machine.{new as new_state};
 ghost use Rattle.rows.specs.Made.{made_view as made_rows};
 ghost use Rattle.shelf.specs.View.{emptied};
 ghost use Rattle.signatures.specs.Layers.{layered};
@@ -43,7 +45,7 @@ pub fn one_clause_on_rows<K: CostKind>(
     ledger: &mut [Cell<K::Row>],
     figures: &[i64],
 ) -> Result<K::Amount, Fault>
-    ensures { cheapest_told K.kind.figures result ≡ one_clause_on K.kind (made_rows (length words.old) highest longest) ledger.old figures.now }
+    ensures { cheapest_told K.kind.figures result ≡ one_clause_case K.kind.scale (new_state K.kind.scale (made_rows (length words.old) highest longest) (cells_of K.kind ledger.old)) figures.now }
 {
     let mut shelf = RowShelf::new(words, highest, longest);
     one_clause::<K, _>(&mut shelf, ledger, figures)

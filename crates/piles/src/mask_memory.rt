@@ -5,9 +5,8 @@ ghost use Rattle.bench.specs.Meaning.{granted_told, state_of, Done, IfGranted, I
 ghost use Rattle.cost.specs.Figures.{zeros};
 ghost use Rattle.cost.specs.Kinds.{Kind};
 ghost use Rattle.ledger.specs.declared.cell.Cell.TheVariants.{Soft as SoftCell};
-ghost use Rattle.masks.specs.Masks.{used};
 ghost use Rattle.masks.specs.Shelves.{in_order, meaning, words_of};
-ghost use Rattle.piles.specs.Memory.{Blank};
+ghost use Rattle.piles.specs.Memory.{BlankMasks};
 ghost use Rattle.rules.specs.Filling.{open_does};
 
 use bench::case::Bench;
@@ -25,7 +24,7 @@ pub fn reopen_masks<K: CostKind>(
     n: u16,
 ) -> Result<(), Fault>
     ensures did { in_order shelf.old → Done (in_order shelf.new) (granted_told result) (state_of K.kind bench.new (meaning shelf.new) ledger.new) (open_does K.kind.scale (state_of K.kind bench.old (meaning shelf.old) ledger.old) n) }
-    ensures words { in_order shelf.old → Blank result (words_of shelf.new) (used shelf.new.places) }
+    ensures words { in_order shelf.old → BlankMasks result (words_of shelf.new) shelf.new.places }
     ensures refused { IfRefused result ((bench.new ≡ bench.old) × (shelf.new ≡ shelf.old) × (ledger.new ≡ ledger.old)) }
     ensures cells { IfGranted result ((a : K.Amount) → K.kind.figures a ≡ zeros K.kind.scale.tiers → ledger.new ≡ replicate (length ledger.old) (SoftCell (K.kind.row a))) }
 {

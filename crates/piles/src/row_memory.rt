@@ -8,7 +8,6 @@ ghost use Rattle.ledger.specs.Meaning.{cells_of};
 ghost use Rattle.ledger.specs.declared.cell.Cell.TheVariants.{Soft as SoftCell};
 ghost use Rattle.piles.specs.Memory.{Blank};
 ghost use Rattle.rows.specs.Made.{made_view};
-ghost use Rattle.rows.specs.Rows.{used};
 ghost use Rattle.rows.specs.Shelves.{in_order, meaning, words_of};
 ghost use Rattle.rules.specs.Filling.{open_does};
 ghost use Rattle.rules.specs.Machine.{new as new_state};
@@ -28,7 +27,7 @@ pub fn reopen_rows<K: CostKind>(
     n: u16,
 ) -> Result<(), Fault>
     ensures did { in_order shelf.old → Done (in_order shelf.new) (granted_told result) (state_of K.kind bench.new (meaning shelf.new) ledger.new) (open_does K.kind.scale (state_of K.kind bench.old (meaning shelf.old) ledger.old) n) }
-    ensures words { in_order shelf.old → Blank result (words_of shelf.new) (used shelf.new.places shelf.new.longest) }
+    ensures words { in_order shelf.old → Blank result (words_of shelf.new) shelf.new.places shelf.new.longest }
     ensures refused { IfRefused result ((bench.new ≡ bench.old) × (shelf.new ≡ shelf.old) × (ledger.new ≡ ledger.old)) }
     ensures cells { IfGranted result ((a : K.Amount) → K.kind.figures a ≡ zeros K.kind.scale.tiers → ledger.new ≡ replicate (length ledger.old) (SoftCell (K.kind.row a))) }
 {

@@ -7,8 +7,7 @@ use Rattle.shelf.specs.Literals.{stands, put, none}
 use Rattle.shelf.specs.View.{View, Sound, clause, with_held}
 use Rattle.shelf.specs.Room.{Writable}
 use Rattle.shelf.specs.Answers.{added, after_add}
-use Rattle.rules.specs.Steps.{split_view}
-use Rattle.results.specs.Splitting.{Splittable}
+use Rattle.results.specs.Splitting.{split_view, Splittable}
 
 -- a literal that may be added
 added_here : (v : View) (p c : ℕ) → p < v.places → 1 ≤ c / 2 → c / 2 ≤ v.highest → stands (c / 2) (clause v p) ≡ false → length (clause v p) < v.longest

@@ -5,3 +5,4 @@ pub mod Definition
 pub mod Counting
 pub mod Placing
 pub mod Splitting
+pub mod Resolving

@@ -8,7 +8,7 @@ ghost use Rattle.shelf.specs.View.{clause, with_held};
 ghost use Rattle.results.specs.Counting.{tally_of};
 ghost use Rattle.results.specs.Parents.{codes_of, results_of};
 ghost use Rattle.results.specs.Placing.{Laid, Placeable, after_placing};
-ghost use Rattle.rules.specs.Steps.{resolvents_at};
+ghost use Rattle.results.specs.Resolving.{resolvents_at};
 ghost use Rattle.results.specs.Spread.{AllSpread};
 
 use crate::codes::without;

@@ -1,10 +1,9 @@
 // The splitting of a place on a variable: its clause with the variable stays there,
 // and its clause with the opposite goes to another place.
 ghost use Rattle.std.specs.Prelude.{◌≡◌};
-ghost use Rattle.rules.specs.Steps.{split_view};
+ghost use Rattle.results.specs.Splitting.{split_view, Splittable};
 ghost use Rattle.shelf.specs.Answers.{Became};
 ghost use Rattle.shelf.specs.View.{with_held};
-ghost use Rattle.results.specs.Splitting.{Splittable};
 
 use shelf::literal::Literal;
 use shelf::places::{read_codes, write_codes};

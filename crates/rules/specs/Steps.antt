@@ -12,12 +12,9 @@
 --                 12 of any results
 --   sum_news, resolve_news   the new amounts of a join and of a resolve, which
 --                 question 13 asks about in this order
---   resolvents_at the results of resolving two places of a shelf
 --   results_at, common   a resolve's results, and their cell
 --   taken_in      the case once an empty result, if there is one, has been taken in
 --   is_shown, costs_more   questions 14 and 15
---   X-asks        the questions of a step from 9 on, by what it looks at: what the
---                 shelf means, the cells of its sources, and figures of the case
 --   X-questions, X-done, X-does   as for the other calls
 use Rattle.std.specs.Prelude.{ℕ, ◌+◌, ◌*◌, Bool, true, false, cond, not, ◌&&◌, ◌||◌, List, [], ◌∷◌, ◌++◌, length, ℤ, Some, None, Option, ◌==◌, nat_le, nat_lt, slice_set}
 use Rattle.std.specs.Ordering.{is_gt}
@@ -56,20 +53,18 @@ step_fits s = asks 1 (ledger_long s) ∷ asks 2 (at_steps s.bench.phase) ∷ []
 -- split (place, variable, to): the clause with the variable at its place, and with
 -- the opposite at `to`, both with its cell
 
--- n is the current number of variables
-abbrev pub split_asks : View → ℕ → ℕ → ℕ → ℕ → List Question
-split_asks v n p x to =
-    asks 9 (filled v p) ∷ asks 10 (nat_le 1 x && (nat_le x (known n v) && not (stands x (clause v p))))
-    ∷ asks 11 (short_enough v.longest (halves x (clause v p))) ∷ asks 12 (roomy v to 1) ∷ []
-
 abbrev pub split_questions : State → ℕ → ℕ → ℕ → List Question
-split_questions s p x to = step_fits s ++ split_asks s.shelf s.bench.current p x to
-
-abbrev pub split_view : View → ℕ → ℕ → ℕ → View
-split_view v p x to = with_held v (slice_set (slice_set v.held p (put (2 * x) (clause v p))) to (put (2 * x + 1) (clause v p)))
+split_questions s p x to =
+    let cs = clause s.shelf p in
+    step_fits s ++ (asks 9 (filled s.shelf p)
+    ∷ asks 10 (nat_le 1 x && (nat_le x (known s.bench.current s.shelf) && not (stands x cs)))
+    ∷ asks 11 (short_enough s.shelf.longest (halves x cs)) ∷ asks 12 (roomy s.shelf to 1) ∷ [])
 
 abbrev pub split_done : Scale → State → ℕ → ℕ → ℕ → State
-split_done k s p x to = record { bench = s.bench; shelf = split_view s.shelf p x to; ledger = slice_set s.ledger to (cell_in k s p) }
+split_done k s p x to =
+    let cs = clause s.shelf p in
+    let half = slice_set s.shelf.held p (put (2 * x) cs) in
+    record { bench = s.bench; shelf = with_held s.shelf (slice_set half to (put (2 * x + 1) cs)); ledger = slice_set s.ledger to (cell_in k s p) }
 
 unfoldable pub split_does : Scale → State → ℕ → ℕ → ℕ → Outcome
 split_does k s p x to = outcome (first_no (split_questions s p x to)) s (grants (worked (split_done k s p x to)))
@@ -82,14 +77,11 @@ sum_news hard c = []
 sum_news (soft a) hard = []
 sum_news (soft a) (soft b) = plus a b ∷ []
 
--- a and b are the cells of i and j
-abbrev pub join_asks : Scale → View → Cell → Cell → ℕ → ℕ → List Question
-join_asks k v a b i j =
-    asks 9 (filled v i && filled v j) ∷ asks 10 (not (i == j) && same_codes (clause v i) (clause v j))
-    ∷ record { number = 13; reply = reach_reply k (sum_news a b) } ∷ []
-
 abbrev pub join_questions : Scale → State → ℕ → ℕ → List Question
-join_questions k s i j = step_fits s ++ join_asks k s.shelf (cell_in k s i) (cell_in k s j) i j
+join_questions k s i j =
+    step_fits s ++ (asks 9 (filled s.shelf i && filled s.shelf j)
+    ∷ asks 10 (not (i == j) && same_codes (clause s.shelf i) (clause s.shelf j))
+    ∷ record { number = 13; reply = reach_reply k (sum_news (cell_in k s i) (cell_in k s j)) } ∷ [])
 
 abbrev pub join_done : Scale → State → ℕ → ℕ → State
 join_done k s i j = settled k (settled k s i (joined (cell_in k s i) (cell_in k s j))) j (soft (zeros k.tiers))
@@ -104,13 +96,10 @@ remainders hard m = []
 remainders (soft a) hard = []
 remainders (soft a) (soft m) = minus a m ∷ []
 
--- the results of resolving the places i and j on the variable x, with the
--- compensations of i where wi and of j where wj
-abbrev pub resolvents_at : View → ℕ → ℕ → ℕ → Bool → Bool → List (List ℕ)
-resolvents_at v i j x wi wj = resolvents (2 * x) (clause v i) (clause v j) wi wj
-
+-- the results of resolving places i and j on the variable x
 abbrev pub results_at : Scale → State → ℕ → ℕ → ℕ → List (List ℕ)
-results_at k s i j x = resolvents_at s.shelf i j x (not (is_hard (cell_in k s i))) (not (is_hard (cell_in k s j)))
+results_at k s i j x =
+    resolvents (2 * x) (clause s.shelf i) (clause s.shelf j) (not (is_hard (cell_in k s i))) (not (is_hard (cell_in k s j)))
 
 abbrev pub common : Scale → State → ℕ → ℕ → Cell
 common k s i j = smaller (cell_in k s i) (cell_in k s j)
@@ -125,14 +114,11 @@ source_questions v i j x = asks 9 (filled v i && filled v j) ∷ asks 10 (among 
 abbrev pub result_questions : View → ℕ → List (List ℕ) → List Question
 result_questions v to rs = asks 11 (short_enough v.longest rs) ∷ asks 12 (roomy v to (length (kept rs))) ∷ []
 
--- a and b are the cells of i and j, and z is the proved cost
-abbrev pub resolve_asks : Scale → View → Cell → Cell → List ℤ → ℕ → ℕ → ℕ → ℕ → List Question
-resolve_asks k v a b z i j x to =
-    let rs = resolvents_at v i j x (not (is_hard a)) (not (is_hard b)) in
-    source_questions v i j x ++ (result_questions v to rs ++ (record { number = 13; reply = reach_reply k (resolve_news (has_empty rs) a b z) } ∷ []))
-
 abbrev pub resolve_questions : Scale → State → ℕ → ℕ → ℕ → ℕ → List Question
-resolve_questions k s i j x to = step_fits s ++ resolve_asks k s.shelf (cell_in k s i) (cell_in k s j) s.bench.proved i j x to
+resolve_questions k s i j x to =
+    let rs = results_at k s i j x in
+    step_fits s ++ (source_questions s.shelf i j x ++ (result_questions s.shelf to rs
+    ++ (record { number = 13; reply = reach_reply k (resolve_news (has_empty rs) (cell_in k s i) (cell_in k s j) s.bench.proved) } ∷ [])))
 
 -- the case once an empty result, if there is one, has been taken in
 abbrev pub taken_in : Bool → Cell → Case → Case
@@ -150,13 +136,10 @@ resolve_does k s i j x to = outcome (first_no (resolve_questions k s i j x to)) 
 
 -- define (to, literals): the next variable is true exactly where some literal is
 
--- n is the current number of variables
-abbrev pub define_asks : View → ℕ → ℕ → List ℕ → List Question
-define_asks v n to ls =
-    asks 10 (not (none ls) && (rises (known n v) 0 ls && nat_lt n v.highest)) ∷ result_questions v to (defining (n + 1) ls)
-
 abbrev pub define_questions : State → ℕ → List ℕ → List Question
-define_questions s to ls = step_fits s ++ define_asks s.shelf s.bench.current to ls
+define_questions s to ls =
+    step_fits s ++ (asks 10 (not (none ls) && (rises (known s.bench.current s.shelf) 0 ls && nat_lt s.bench.current s.shelf.highest))
+    ∷ result_questions s.shelf to (defining (s.bench.current + 1) ls))
 
 abbrev pub one_more : Case → Case
 one_more b = record { phase = b.phase; n = b.n; current = b.current + 1; total = b.total; proved = b.proved; impossible = b.impossible; shown = b.shown }
@@ -179,13 +162,10 @@ costs_more z c None = false
 costs_more z hard (Some u) = false
 costs_more z (soft a) (Some u) = is_gt (order (plus z a) u)
 
--- a is the cell of i, z the proved cost, and u the shown plan's cost
-abbrev pub harden_asks : View → Cell → List ℤ → Option (List ℤ) → ℕ → List Question
-harden_asks v a z u i =
-    asks 9 (filled v i) ∷ asks 10 (not (is_hard a)) ∷ asks 14 (is_shown u) ∷ asks 15 (costs_more z a u) ∷ []
-
 abbrev pub harden_questions : Scale → State → ℕ → List Question
-harden_questions k s i = step_fits s ++ harden_asks s.shelf (cell_in k s i) s.bench.proved s.bench.shown i
+harden_questions k s i =
+    step_fits s ++ (asks 9 (filled s.shelf i) ∷ asks 10 (not (is_hard (cell_in k s i)))
+    ∷ asks 14 (is_shown s.bench.shown) ∷ asks 15 (costs_more s.bench.proved (cell_in k s i) s.bench.shown) ∷ [])
 
 abbrev pub harden_done : State → ℕ → State
 harden_done s i = record { bench = s.bench; shelf = s.shelf; ledger = slice_set s.ledger i hard }

@@ -13,7 +13,7 @@ use Rattle.rules.specs.Case.{known}
 use Rattle.rules.specs.Clauses.{rises}
 use Rattle.rules.specs.Questions.{passes, stops, first_no}
 use Rattle.rules.specs.Results.{defining, kept, short_enough}
-use Rattle.rules.specs.Steps.{define_asks}
+use Rattle.steps.specs.Asks.{define_asks}
 use Rattle.steps.proofs.Verdicts.{yes, no_at, yes_then}
 
 some_codes : (cs : List ℕ) → (length cs ≡ 0 → ⊥) → not (none cs) ≡ true

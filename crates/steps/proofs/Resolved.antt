@@ -10,7 +10,9 @@ use Rattle.results.specs.Placing.{Placeable}
 use Rattle.rules.specs.Cells.{Cell, is_hard}
 use Rattle.rules.specs.Questions.{Reply, Question, passes, stops, after_reply, reach_reply, first_no}
 use Rattle.rules.specs.Results.{kept, short_enough, has_empty}
-use Rattle.rules.specs.Steps.{source_questions, result_questions, resolvents_at, resolve_news, resolve_asks}
+use Rattle.rules.specs.Steps.{source_questions, result_questions, resolve_news}
+use Rattle.results.specs.Resolving.{resolvents_at}
+use Rattle.steps.specs.Asks.{resolve_asks}
 use Rattle.steps.proofs.Verdicts.{stop_early, go_on, told_ok, told_err, yes_then}
 
 module _ (k : Scale) (v : View) (a b : Cell) (z : List ℤ) (i j x to : ℕ) where

@@ -10,7 +10,7 @@ use Rattle.results.proofs.Reading.{clause_rises}
 use Rattle.rules.specs.Case.{known}
 use Rattle.rules.specs.Questions.{passes, stops, first_no}
 use Rattle.rules.specs.Results.{halves, short_enough}
-use Rattle.rules.specs.Steps.{split_asks}
+use Rattle.steps.specs.Asks.{split_asks}
 use Rattle.steps.proofs.Verdicts.{yes, no_at, yes_then}
 
 -- a code is of the variable x in one sign or in the other

@@ -15,7 +15,8 @@ use Rattle.shelf.specs.View.{View}
 use Rattle.rules.specs.Case.{cell_at}
 use Rattle.rules.specs.Cells.{Cell, is_hard, amounts_to_nothing, joined}
 use Rattle.rules.specs.Results.{kept, laid, alike}
-use Rattle.rules.specs.Steps.{freed_if, resolvents_at}
+use Rattle.rules.specs.Steps.{freed_if}
+use Rattle.results.specs.Resolving.{resolvents_at}
 use Rattle.faults.specs.declared.fault.Fault.{Fault}
 use Rattle.ledger.specs.Dues.{dues, dues_of}
 use Rattle.ledger.specs.Meaning.{cell_of, cells_of}

@@ -9,7 +9,7 @@ ghost use Rattle.results.specs.Placing.{Laid, after_placing};
 ghost use Rattle.rules.specs.Cells.{hard};
 ghost use Rattle.rules.specs.Questions.{first_no, passes};
 ghost use Rattle.rules.specs.Results.{alike, defining, kept, laid};
-ghost use Rattle.rules.specs.Steps.{define_asks};
+ghost use Rattle.steps.specs.Asks.{define_asks};
 
 use clauses::given::{known_variables, literals_rise};
 use cost::kind::CostKind;

@@ -5,7 +5,7 @@ ghost use Rattle.cost.specs.Kinds.{Kind};
 ghost use Rattle.faults.specs.Faults.{verdict_told};
 ghost use Rattle.ledger.specs.Bills.{amount_told};
 ghost use Rattle.rules.specs.Questions.{first_no};
-ghost use Rattle.rules.specs.Steps.{harden_asks};
+ghost use Rattle.steps.specs.Asks.{harden_asks};
 ghost use Rattle.steps.specs.Asked.{cell_here};
 
 use cost::kind::CostKind;

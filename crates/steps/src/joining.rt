@@ -7,7 +7,7 @@ ghost use Rattle.ledger.specs.Meaning.{cell_of, cells_of};
 ghost use Rattle.results.specs.Placing.{Laid};
 ghost use Rattle.rules.specs.Cells.{soft};
 ghost use Rattle.rules.specs.Questions.{first_no};
-ghost use Rattle.rules.specs.Steps.{join_asks};
+ghost use Rattle.steps.specs.Asks.{join_asks};
 ghost use Rattle.steps.specs.Asked.{Joins, cell_here, left_cells, left_view};
 
 use crate::settling::settle;

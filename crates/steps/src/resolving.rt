@@ -8,7 +8,9 @@ ghost use Rattle.results.specs.Placing.{Placeable};
 ghost use Rattle.rules.specs.Cells.{is_hard};
 ghost use Rattle.rules.specs.Questions.{first_no};
 ghost use Rattle.rules.specs.Results.{has_empty};
-ghost use Rattle.rules.specs.Steps.{source_questions, result_questions, resolvents_at, resolve_asks};
+ghost use Rattle.rules.specs.Steps.{source_questions, result_questions};
+ghost use Rattle.results.specs.Resolving.{resolvents_at};
+ghost use Rattle.steps.specs.Asks.{resolve_asks};
 ghost use Rattle.steps.specs.Asked.{Carried, Empties, Resolves, cell_here, results_of};
 
 use crate::resolution::Resolution;

@@ -3,7 +3,8 @@ use Rattle.shelf.specs.View.{View}
 use Rattle.ledger.specs.Meaning.{cell_of, cells_of}
 use Rattle.rules.specs.Cells.{Cell, amounts_to_nothing}
 use Rattle.rules.specs.Results.{kept}
-use Rattle.rules.specs.Steps.{freed_if, resolvents_at}
+use Rattle.rules.specs.Steps.{freed_if}
+use Rattle.results.specs.Resolving.{resolvents_at}
 use Rattle.steps.proofs.Carrying.{laid_alike}
 use Rattle.steps.proofs.resolving.resolve.Goals as goal
 

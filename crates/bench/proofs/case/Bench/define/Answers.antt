@@ -1,7 +1,8 @@
 use Rattle.std.proofs.Common.{refl}
 use Rattle.std.proofs.lemmas.Result.{err_from_is_err_and}
 use Rattle.clauses.specs.Codes.{codes}
-use Rattle.rules.specs.Steps.{worked, define_asks, define_done, define_does}
+use Rattle.rules.specs.Steps.{worked, define_done, define_does}
+use Rattle.steps.specs.Asks.{define_asks}
 use Rattle.bench.proofs.Doing.{same_state}
 use Rattle.bench.proofs.Stepping.{refused_first, refused_then, step_granted, defined_case}
 use Rattle.bench.specs.Meaning.{state_of}

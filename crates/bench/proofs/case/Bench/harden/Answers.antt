@@ -1,6 +1,7 @@
 use Rattle.std.proofs.Common.{refl}
 use Rattle.std.proofs.lemmas.Result.{err_from_is_err_and}
-use Rattle.rules.specs.Steps.{worked, cell_in, harden_asks, harden_done, harden_does}
+use Rattle.rules.specs.Steps.{worked, cell_in, harden_done, harden_does}
+use Rattle.steps.specs.Asks.{harden_asks}
 use Rattle.bench.proofs.Doing.{same_state}
 use Rattle.bench.proofs.Stepping.{refused_first, refused_then, step_granted}
 use Rattle.bench.specs.Meaning.{state_of}

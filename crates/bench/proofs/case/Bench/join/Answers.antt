@@ -1,6 +1,7 @@
 use Rattle.std.proofs.Common.{refl}
 use Rattle.std.proofs.lemmas.Result.{err_from_is_err_and}
-use Rattle.rules.specs.Steps.{worked, cell_in, join_asks, join_done, join_does}
+use Rattle.rules.specs.Steps.{worked, cell_in, join_done, join_does}
+use Rattle.steps.specs.Asks.{join_asks}
 use Rattle.bench.proofs.Stepping.{refused_first, refused_then, step_granted, joined_state}
 use Rattle.bench.specs.Meaning.{state_of}
 use Rattle.bench.proofs.case.Bench.join.Goals as goal

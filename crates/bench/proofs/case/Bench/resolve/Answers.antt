@@ -4,7 +4,8 @@ use Rattle.ledger.specs.Dues.{dues_of}
 use Rattle.ledger.specs.Meaning.{cell_of}
 use Rattle.results.specs.Placing.{Placeable}
 use Rattle.rules.specs.Cells.{is_hard}
-use Rattle.rules.specs.Steps.{worked, cell_in, resolve_asks, resolve_done, resolve_does}
+use Rattle.rules.specs.Steps.{worked, cell_in, resolve_done, resolve_does}
+use Rattle.steps.specs.Asks.{resolve_asks}
 use Rattle.steps.proofs.Resolved.{placeable, same_results}
 use Rattle.bench.proofs.Stepping.{refused_first, refused_then, step_granted, resolved_state}
 use Rattle.bench.specs.Meaning.{state_of}

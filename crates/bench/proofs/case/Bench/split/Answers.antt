@@ -1,6 +1,7 @@
 use Rattle.std.proofs.Common.{refl}
 use Rattle.std.proofs.lemmas.Result.{err_from_is_err_and}
-use Rattle.rules.specs.Steps.{worked, split_asks, split_done, split_does}
+use Rattle.rules.specs.Steps.{worked, split_done, split_does}
+use Rattle.steps.specs.Asks.{split_asks}
 use Rattle.bench.proofs.Doing.{same_state}
 use Rattle.bench.proofs.Stepping.{refused_first, refused_then, step_granted}
 use Rattle.bench.specs.Meaning.{state_of}
