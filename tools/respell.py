@@ -28,8 +28,8 @@ BINDER = re.compile(rf"[({{]((?:{NAME}\s+)*{NAME}) : ")
 LOCAL = re.compile(rf"\blet ({NAME}) (?::|=)")
 
 EXCEPTIONS = {
-    "bit-and": "bit-bit_and",
-    "bit-or": "bit-bit_or",
+    "bit-and": "bit_bit_and",
+    "bit-or": "bit_bit_or",
     "free-first": "freed_first",
     "free-or-met": "vacant_or_met",
     "is-filling": "at_filling",

@@ -24,8 +24,8 @@ Copied out cs (Err e) = Unit {0}
 -- on a grant, what a soft clause comes to, by exact figures
 pub record SoftTaken {A : Type 0} (f : A → List ℤ) (out cs : List ℕ) (xs total proved : List ℤ) (a : Accepted A) : Type 0 where
   pub copied : take a.count out ≡ cs
-  pub amount-is : f a.amount ≡ xs
-  pub total-is : f a.total ≡ plus total xs
+  pub amount_is : f a.amount ≡ xs
+  pub total_is : f a.total ≡ plus total xs
   pub proved_is : f a.proved ≡ paid (none cs) (soft xs) proved
 
 abbrev pub Accepts : {A : Type 0} → (A → List ℤ) → List ℕ → List ℕ → List ℤ → List ℤ → List ℤ → Result (Accepted A) Fault → Type 0
@@ -35,7 +35,7 @@ Accepts f out cs xs total proved (Err e) = Unit {0}
 -- on a grant, the shown plan's cost and how many soft clauses it leaves unmet
 pub record BillOf {A : Type 0} (f : A → List ℤ) (z : List ℤ) (os : List (List ℤ)) (p : A × ℕ) : Type 0 where
   pub cost_is : f p.0 ≡ summed z os
-  pub count-is : p.1 ≡ length os
+  pub count_is : p.1 ≡ length os
 
 abbrev pub Bills : {A : Type 0} → (A → List ℤ) → List ℤ → List (List ℤ) → Result (A × ℕ) Fault → Type 0
 Bills f z os (Ok p) = BillOf f z os p

@@ -61,8 +61,8 @@ first x y o = cond (lt_z x y) Less (cond (lt_z y x) Greater o)
 neither_same : (x y : ℤ) → lt_z x y ≡ false → lt_z y x ≡ false → x ≡ y
 neither_same x y p q = grind (arith, ints)
 
-first-same : (x y : ℤ) (o : Ordering) → x ≡ y → first x y o ≡ o
-first-same x y o e = grind (arith, ints)
+first_same : (x y : ℤ) (o : Ordering) → x ≡ y → first x y o ≡ o
+first_same x y o e = grind (arith, ints)
 
 -- equal in all: the first tiers are equal, and so is the rest
 equal_parts : (p q : Bool) (o : Ordering) → cond p Less (cond q Greater o) ≡ Equal → (p ≡ false) × (q ≡ false) × (o ≡ Equal)
@@ -72,7 +72,7 @@ equal_parts false false o e = (refl, refl, e)
 
 pub order_same : (xs : List ℤ) → order xs xs ≡ Equal
 order_same [] = refl
-order_same (x ∷ xs) = first-same x x (order xs xs) refl ∙ order_same xs
+order_same (x ∷ xs) = first_same x x (order xs xs) refl ∙ order_same xs
 
 pub order_equal : (xs ys : List ℤ) → length xs ≡ length ys → order xs ys ≡ Equal → xs ≡ ys
 order_equal [] [] l e = refl

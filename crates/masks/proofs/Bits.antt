@@ -15,11 +15,11 @@ bit_half k m =
     let e : suc k ≡ 1 + k = omega arith in
     ap (λ (j : ℕ). m / 2 ^ j % 2) e ∙ ap (λ (x : ℕ). x % 2) (sym (shr-shr m 1 k))
 
-pub bit-bit_or : (k a b : ℕ) → bit k (bit_or a b) ≡ max (bit k a) (bit k b)
-bit-bit_or k a b = let s = or_step (a / 2 ^ k) (b / 2 ^ k) in ap (λ (x : ℕ). x % 2) (or_shr a b k ∙ s) ∙ omega arith
+pub bit_bit_or : (k a b : ℕ) → bit k (bit_or a b) ≡ max (bit k a) (bit k b)
+bit_bit_or k a b = let s = or_step (a / 2 ^ k) (b / 2 ^ k) in ap (λ (x : ℕ). x % 2) (or_shr a b k ∙ s) ∙ omega arith
 
-pub bit-bit_and : (k a b : ℕ) → bit k (bit_and a b) ≡ min (bit k a) (bit k b)
-bit-bit_and k a b = let s = and_step (a / 2 ^ k) (b / 2 ^ k) in ap (λ (x : ℕ). x % 2) (and_shr a b k ∙ s) ∙ omega arith
+pub bit_bit_and : (k a b : ℕ) → bit k (bit_and a b) ≡ min (bit k a) (bit k b)
+bit_bit_and k a b = let s = and_step (a / 2 ^ k) (b / 2 ^ k) in ap (λ (x : ℕ). x % 2) (and_shr a b k ∙ s) ∙ omega arith
 
 pub half_below : (n m : ℕ) → m < 2 ^ suc n → m / 2 < 2 ^ n
 half_below n m h = omega (arith, pow-suc 2 n)
@@ -70,13 +70,13 @@ either_one (suc x) y hx hy =
 
 pub neither_bit : (k a b : ℕ) → eqb (bit k (bit_or a b)) 1 ≡ false → (bit k a ≡ 0) × (bit k b ≡ 0)
 neither_bit k a b h =
-    let e = bit-bit_or k a b in
+    let e = bit_bit_or k a b in
     let ne = eqb-false (bit k (bit_or a b)) 1 h in
     (omega arith, omega arith)
 
 pub apart_bit : (k a b : ℕ) → bit_and a b ≡ 0 → bit k b ≡ 1 → bit k a ≡ 0
 apart_bit k a b apart on =
-    let e = bit-bit_and k a b in
+    let e = bit_bit_and k a b in
     let z : bit k (bit_and a b) ≡ bit k 0 = ap (bit k) apart in
     let o : bit k 0 ≡ 0 = omega arith in
     omega arith

@@ -6,7 +6,7 @@ use lib.Count.{ones, ones_step}
 use Rattle.std.proofs.lemmas.Bool.{eq-eqb, ne_eqb, or_left}
 use Rattle.shelf.specs.Literals.{among, stands}
 use Rattle.masks.specs.Digits.{bit, codes, spelled}
-use Rattle.masks.proofs.Bits.{bit_first, bit_half, bit-bit_or, either_one, half_below}
+use Rattle.masks.proofs.Bits.{bit_first, bit_half, bit_bit_or, either_one, half_below}
 
 -- one variable's part and the rest, in other terms for the digits and the halves
 pub codes_by : (n v a b d e x y : ℕ) → a % 2 ≡ d → b % 2 ≡ e → a / 2 ≡ x → b / 2 ≡ y → codes (suc n) v a b ≡ spelled d (2 * v) (spelled e (2 * v + 1) (codes n (v + 1) x y))
@@ -109,4 +109,4 @@ codes_stand n v k a b u h is =
     stands_among u (codes n v a b)
     ∙ ap₂ (λ (p q : Bool). p || q) (codes_among n v k 0 a b (2 * u) h (omega arith) (omega arith)) (codes_among n v k 1 a b (2 * u + 1) h (omega arith) (omega arith))
     ∙ either_one (bit k a) (bit k b) (omega arith) (omega arith)
-    ∙ ap (λ (d : ℕ). eqb d 1) (sym (bit-bit_or k a b))
+    ∙ ap (λ (d : ℕ). eqb d 1) (sym (bit_bit_or k a b))

@@ -27,5 +27,5 @@ fresh_masks P ws few room zeros =
           ∙ sym (get_or-replicate P p [] [] q)),
     )
 
-pub made-is : (n P : ℕ) → P ≡ min (n / 2) 65535 → record { places = P; highest = 64; longest = 64; held = replicate P []; remainder = [] } ≡ made_view n
-made-is n P e = ap (λ (P : ℕ). record { places = P; highest = 64; longest = 64; held = replicate P []; remainder = [] }) e
+pub made_is : (n P : ℕ) → P ≡ min (n / 2) 65535 → record { places = P; highest = 64; longest = 64; held = replicate P []; remainder = [] } ≡ made_view n
+made_is n P e = ap (λ (P : ℕ). record { places = P; highest = 64; longest = 64; held = replicate P []; remainder = [] }) e

@@ -8,7 +8,7 @@ use Rattle.masks.proofs.Making.{fresh_masks}
 use Rattle.masks.proofs.Writings.{one_writing as masks_writing}
 use Rattle.masks.specs.Masks as masks
 use Rattle.masks.specs.Masks.{Masks, masks_view}
-use Rattle.rows.proofs.Making.{fresh-rows}
+use Rattle.rows.proofs.Making.{fresh_rows}
 use Rattle.rows.proofs.Writings.{one_writing as rows_writing}
 use Rattle.rows.specs.Rows as rows
 use Rattle.rows.specs.Rows.{Rows, rows_view}
@@ -39,7 +39,7 @@ zero_rows : (P V L : ℕ) (ws : List ℕ) → Rows P V L ws → rows.held_in P L
 zero_rows P V L ws r e =
     let u = rows.used P L in
     let all : take (rows.used P L) (replicate (rows.used P L) 0) ≡ replicate (rows.used P L) 0 = take_all u (replicate u 0) (simp length-replicate (omega arith)) in
-    let f = fresh-rows P V L (replicate u 0) r.places_few r.highest_low r.highest_high r.longest_low r.longest_high (simp length-replicate (omega arith)) all in
+    let f = fresh_rows P V L (replicate u 0) r.places_few r.highest_low r.highest_high r.longest_low r.longest_high (simp length-replicate (omega arith)) all in
     rows_writing P V L ws (replicate u 0) r f.0 (ap (λ (h : List (List ℕ)). record { places = P; highest = V; longest = L; held = h; remainder = [] }) (e ∙ sym f.1)) ∙ all
 
 pub blank_rows : {F : Type 0} (k : Scale) (s t : State) (n : ℕ) (r : Result (Unit {0}) Fault) (P V L : ℕ) (ws : List ℕ) → Rows P V L ws → t.shelf ≡ rows_view P V L ws

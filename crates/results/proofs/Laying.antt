@@ -17,9 +17,9 @@ pub kept_vanishing : (r : List ℕ) → vanishes r ≡ true → kept (r ∷ []) 
 unfolding kept
 kept_vanishing r h = rw h
 
-pub kept-empty : (r : List ℕ) → r ≡ [] → kept (r ∷ []) ≡ []
+pub kept_empty : (r : List ℕ) → r ≡ [] → kept (r ∷ []) ≡ []
 unfolding kept vanishes
-kept-empty r h = rw h
+kept_empty r h = rw h
 
 none_not : (cs : List ℕ) → (length cs ≡ 0 → ⊥) → none cs ≡ false
 none_not [] h = elim (h refl) [ ]

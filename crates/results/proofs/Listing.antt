@@ -67,9 +67,9 @@ at_none p q a b wp wq t h = let l = length_results p q a b wp wq in get_or_past 
 pub wanted_length : {b' b : List ℕ} {n : ℕ} (w : Bool) → b' ≡ b → n ≡ cond w (length b') 0 → n ≡ cond w (length b) 0
 wanted_length w e h = h ∙ ap (λ (l : List ℕ). cond w (length l) 0) e
 
-pub first-at : (p q a b : List ℕ) (wp wq : Bool) (t f : ℕ) → f ≡ cond wp (length b) 0 → (t ≡ 0 → ⊥) → t - 1 < f
+pub first_at : (p q a b : List ℕ) (wp wq : Bool) (t f : ℕ) → f ≡ cond wp (length b) 0 → (t ≡ 0 → ⊥) → t - 1 < f
     → merge p (turned (drop (t - 1) b)) ≡ get_or (results p q a b wp wq) t []
-first-at p q a b wp wq t f e n h =
+first_at p q a b wp wq t f e n h =
     let i : t ≡ suc (t - 1) = omega arith in
     sym (at_first p q a b wp wq (t - 1) (omega arith)) ∙ ap (λ (k : ℕ). get_or (results p q a b wp wq) k []) (sym i)
 

@@ -29,9 +29,9 @@ unfolding put
 put_here c codes k (inl h) = rw (drop_all k codes h)
 put_here c codes k (inr h) = let l = h.0 in let m = h.1 in rw (drop_more codes k 0 l, lt-ltb c (get_or codes k 0) m)
 
-pub put-done : {c : ℕ} {codes out w : List ℕ} {k : ℕ} → Putting c codes out k → k < length out → (length codes ≤ k) ⊎ ((k < length codes) × (c < get_or codes k 0))
+pub put_done : {c : ℕ} {codes out w : List ℕ} {k : ℕ} → Putting c codes out k → k < length out → (length codes ≤ k) ⊎ ((k < length codes) × (c < get_or codes k 0))
     → w ≡ take (k + 1) (set out k c) ++ take (length codes - k) (drop k codes) → w ≡ put c codes
-put-done {c = c} {codes = codes} {out = out} {k = k} p h d e =
+put_done {c = c} {codes = codes} {out = out} {k = k} p h d e =
     e ∙ ap (λ (l : List ℕ). take (k + 1) (set out k c) ++ l) (take_rest codes k) ∙ onward out (drop k codes) k c h (put_here c codes k d) p.is
 
 pub length-put : (c : ℕ) (cs : List ℕ) → length (put c cs) ≡ suc (length cs)

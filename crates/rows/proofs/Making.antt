@@ -14,8 +14,8 @@ use Rattle.rows.proofs.Writings.{zeros_codes, zeros_row, zeros_row_at}
 pub rows_fit : (n w P : ℕ) → P ≤ n / w → P * w ≤ n
 rows_fit n w P h = omega (arith, mul-le P w (n / w) w h (omega arith), div-add-mod' n w)
 
-pub fresh-rows : (P V L : ℕ) (ws : List ℕ) → P ≤ 65535 → 1 ≤ V → V ≤ 65535 → 1 ≤ L → L ≤ 255 → used P L ≤ length ws → take (used P L) ws ≡ replicate (used P L) 0 → Rows P V L ws × (held_in P L ws ≡ replicate P [])
-fresh-rows P V L ws few vl vh ll lh room zeros =
+pub fresh_rows : (P V L : ℕ) (ws : List ℕ) → P ≤ 65535 → 1 ≤ V → V ≤ 65535 → 1 ≤ L → L ≤ 255 → used P L ≤ length ws → take (used P L) ws ≡ replicate (used P L) 0 → Rows P V L ws × (held_in P L ws ≡ replicate P [])
+fresh_rows P V L ws few vl vh ll lh room zeros =
     let at : (p : ℕ) → p < P → row_at (L + 1) ws p ≡ replicate (L + 1) 0 = λ p h. zeros_row_at (L + 1) (used P L) ws p zeros (rows_apart (L + 1) p P h) in (
       record {
         places_few = few;

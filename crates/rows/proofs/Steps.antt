@@ -16,8 +16,8 @@ use Rattle.rows.proofs.Writings.{zeros_codes, zeros_row}
 
 -- ---- questions, at a row that was found
 
-pub row-found : (P L : ℕ) (ws : List ℕ) (p a : ℕ) → Starts P L ws p a → L ≤ 255 → get_or ws a 0 < L + 1 → Found P L ws p (take (a + (L + 1) - a) (drop a ws))
-row-found P L ws p a s narrow count =
+pub row_found : (P L : ℕ) (ws : List ℕ) (p a : ℕ) → Starts P L ws p a → L ≤ 255 → get_or ws a 0 < L + 1 → Found P L ws p (take (a + (L + 1) - a) (drop a ws))
+row_found P L ws p a s narrow count =
     let e = part_row (L + 1) p a ws s.at in
     let room : p * (L + 1) + (L + 1) ≤ length ws = omega (arith, s.at, s.room) in
     let l : length (take (a + (L + 1) - a) (drop a ws)) ≡ L + 1 = ap length e ∙ row_length (L + 1) ws p room in

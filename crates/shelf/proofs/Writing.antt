@@ -41,9 +41,9 @@ part_none {v = v} {p = p} {cs = cs} w =
     let e = empty_nil (clause v p) (and_parts (ltb p v.places) (none (clause v p)) w.is_vacant).1 in
     ap (with_held v) (sym (set-get_or v.held p [])) ∙ ap (λ (l : List ℕ). with_held v (set v.held p l)) (sym e)
 
-pub part-more : {v : View} {p : ℕ} {cs : List ℕ} {k : ℕ} {w w' : View} → Sound v → Writable v p cs → k < length cs
+pub part_more : {v : View} {p : ℕ} {cs : List ℕ} {k : ℕ} {w w' : View} → Sound v → Writable v p cs → k < length cs
     → w ≡ part v p cs k → w' ≡ after_add w p (get_or cs k 0) → w' ≡ part v p cs (k + 1)
-part-more {v = v} {p = p} {cs = cs} {k = k} {w = w} {w' = w'} s a h e f =
+part_more {v = v} {p = p} {cs = cs} {k = k} {w = w} {w' = w'} s a h e f =
     let c = get_or cs k 0 in
     let xs = take k cs in
     let ys = drop (k + 1) cs in

@@ -58,16 +58,16 @@ record Fresh (v : View) (p x : ℕ) : Type 0 where
   known_here : x ≤ v.highest
   new_there : stands x (clause v p) ≡ false
 
-not-true : (b : Bool) → not b ≡ true → b ≡ false
-not-true true e = sym e
-not-true false e = refl
+not_true : (b : Bool) → not b ≡ true → b ≡ false
+not_true true e = sym e
+not_true false e = refl
 
 fresh : (v : View) (n p x : ℕ) → new v n p x ≡ true → Fresh v p x
 fresh v n p x e =
     let a = and_parts (leb 1 x) (leb x (known n v) && not (stands x (clause v p))) e in
     let b = and_parts (leb x (known n v)) (not (stands x (clause v p))) a.1 in
     let l = leb-true x (known n v) b.0 in
-    record { some = leb-true 1 x a.0; known_here = omega arith; new_there = not-true (stands x (clause v p)) b.1 }
+    record { some = leb-true 1 x a.0; known_here = omega arith; new_there = not_true (stands x (clause v p)) b.1 }
 
 module _ (v : View) (n p x to : ℕ) (sound : Sound v) where
   abbrev short : Bool

@@ -34,7 +34,7 @@ Joins f a b (Err e) = Unit {0}
 
 -- on a grant, what a resolve comes to, from the cells a and b of its parents
 pub record ResolutionOf {A : Type 0} (f : A → List ℤ) (a b : Cell) (e : Bool) (z : List ℤ) (r : Resolution A) : Type 0 where
-  pub empty-is : r.empty ≡ e
+  pub empty_is : r.empty ≡ e
   pub with_i_is : r.with_i ≡ not (is_hard a)
   pub with_j_is : r.with_j ≡ not (is_hard b)
   pub dues_are : dues_of f r.weighed ≡ dues e a b z

@@ -3,7 +3,7 @@ use Rattle.std.proofs.lemmas.List.{length-take-le}
 use Rattle.shelf.specs.View.{with_held}
 use Rattle.masks.specs.Masks.{masks_view, used}
 use Rattle.shelf.proofs.Zeroing.{fresh_cleared, fresh_length, fresh_spare}
-use Rattle.masks.proofs.Making.{fresh_masks, made-is}
+use Rattle.masks.proofs.Making.{fresh_masks, made_is}
 use Rattle.masks.proofs.MaskShelf.cleared.Goals as goal
 
 pub returns : goal.returns
@@ -23,7 +23,7 @@ returns c =
     let f = fresh_masks P after (omega arith) (omega arith) cleared in
     record {
       fine = f.0;
-      view = ap (with_held (masks_view P after)) f.1 ∙ made-is (length ws) P count;
+      view = ap (with_held (masks_view P after)) f.1 ∙ made_is (length ws) P count;
       cleared = cleared;
       spare_kept = fresh_spare u ws ys after zeros written;
     }

@@ -1,6 +1,6 @@
 use Rattle.std.proofs.Common.{◌<◌, ◌≤◌, ◌⊎◌, length, get_or, inl, inr, arith}
 use Rattle.std.proofs.lemmas.List.{length-take, length-drop}
-use Rattle.results.proofs.Putting.{put_begun, put_more, put-done}
+use Rattle.results.proofs.Putting.{put_begun, put_more, put_done}
 use Rattle.results.proofs.codes.put.Goals as goal
 use Rattle.results.proofs.codes.put.Goals.{then-loop-k-test+else-codes-k, else-loop-k-test}
 
@@ -19,5 +19,5 @@ returns c =
     let p = c.loop-k.invariant in
     record {
       low = omega (arith, simp (length-take, length-drop) at c.append.ensures.count);
-      is = put-done p (omega arith) (ended c) c.append.ensures.is;
+      is = put_done p (omega arith) (ended c) c.append.ensures.is;
     }

@@ -5,13 +5,13 @@ use Rattle.shelf.specs.View.{View, with_held}
 use Rattle.rules.specs.Clauses.{vanishes}
 use Rattle.results.specs.Placing.{Placeable}
 use Rattle.results.specs.Spread.{Spread}
-use Rattle.results.proofs.Laying.{kept_vanishing, kept-empty, kept_alone, skipped, taken, writable, there}
+use Rattle.results.proofs.Laying.{kept_vanishing, kept_empty, kept_alone, skipped, taken, writable, there}
 use Rattle.results.proofs.placing.place_one.Goals as goal
 
 pub returns-then-codes-eq0 : goal.returns-then-codes-eq0
 returns-then-codes-eq0 g c =
     let r = c.args.codes.now in
-    let d = skipped (g.S.Shelf.view c.args.shelf.now) c.args.place r c.args.m c.args.cells.now (kept-empty r (nil_from_length r c.if-codes-eq0.true)) in
+    let d = skipped (g.S.Shelf.view c.args.shelf.now) c.args.place r c.args.m c.args.cells.now (kept_empty r (nil_from_length r c.if-codes-eq0.true)) in
     record { next = λ h s a. d.0; did = λ h s a. record { fine = h; view = d.1; cells = d.2 }; framed = λ h. record { fine = h; view = refl } }
 
 pub returns-then-clashes : goal.returns-then-clashes

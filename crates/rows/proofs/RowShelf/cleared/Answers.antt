@@ -3,7 +3,7 @@ use Rattle.std.proofs.lemmas.List.{length-take-le}
 use Rattle.shelf.specs.View.{with_held}
 use Rattle.rows.specs.Rows.{rows_view, used}
 use Rattle.shelf.proofs.Zeroing.{fresh_cleared, fresh_spare, fresh_length}
-use Rattle.rows.proofs.Making.{rows_fit, fresh-rows, made_kept}
+use Rattle.rows.proofs.Making.{rows_fit, fresh_rows, made_kept}
 use Rattle.rows.proofs.RowShelf.cleared.Goals as goal
 
 pub slice_bounds-fill-end : goal.slice_bounds-fill-end
@@ -24,7 +24,7 @@ returns c =
     let written : after ≡ ys ++ drop u ws = ap (λ (n : ℕ). ys ++ drop n ws) all in
     let cleared = fresh_cleared u ws ys after zeros written in
     let same = fresh_length u ws ys after zeros written fit in
-    let f = fresh-rows P V L after (omega (arith, c.min-places.ensures)) (omega arith) (omega arith) (omega arith) (omega arith) (omega arith) cleared in
+    let f = fresh_rows P V L after (omega (arith, c.min-places.ensures)) (omega arith) (omega arith) (omega arith) (omega arith) (omega arith) cleared in
     record {
       fine = f.0;
       view = ap (with_held (rows_view P V L after)) f.1 ∙ made_kept (length ws) V L P (omega arith) (omega arith) (omega arith) (omega arith) c.min-places.ensures;

@@ -3,7 +3,7 @@ use Rattle.std.proofs.lemmas.Bool.{and_left, and_right, lt-leb}
 use Rattle.shelf.specs.View.{with_held}
 use Rattle.rows.specs.Made.{in_limits}
 use Rattle.rows.specs.Rows.{rows_view}
-use Rattle.rows.proofs.Making.{fresh-rows, made_broken}
+use Rattle.rows.proofs.Making.{fresh_rows, made_broken}
 use Rattle.rows.proofs.RowShelf.new.Goals as goal
 use Rattle.rows.proofs.RowShelf.new.Goals.{then-highest-lt1-via-then-highest-lt1, then-highest-lt1-via-else-highest-lt1+then-highest-gt65535, then-highest-lt1-via-else-highest-lt1+else-highest-gt65535+then-longest-lt1, then-highest-lt1-via-else-highest-lt1+else-highest-gt65535+else-longest-lt1+then-longest-gt255}
 
@@ -20,7 +20,7 @@ returns-then-highest-lt1 c =
       | then-highest-lt1-via-else-highest-lt1+else-highest-gt65535+then-longest-lt1 w ↦ and_right highest longest (and_left (leb 1 L) (leb L 255) (lt-leb 1 L w.if-longest-lt1.true))
       | then-highest-lt1-via-else-highest-lt1+else-highest-gt65535+else-longest-lt1+then-longest-gt255 w ↦ and_right highest longest (and_right (leb 1 L) (leb L 255) (lt-leb L 255 w.if-longest-gt255.true))
     ] in
-    let f = fresh-rows 0 1 1 ws (omega arith) (omega arith) (omega arith) (omega arith) (omega arith) (omega arith) refl in
+    let f = fresh_rows 0 1 1 ws (omega arith) (omega arith) (omega arith) (omega arith) (omega arith) (omega arith) refl in
     record {
       fine = f.0;
       view = ap (with_held (rows_view 0 1 1 ws)) f.1 ∙ made_broken (length ws) V L broken;

@@ -1,6 +1,6 @@
 use Rattle.std.proofs.Common.{◌+◌, arith}
 use Rattle.rows.proofs.Rowing.{part_count}
-use Rattle.rows.proofs.Steps.{row-found}
+use Rattle.rows.proofs.Steps.{row_found}
 use Rattle.rows.proofs.RowShelf.row.Goals as goal
 
 pub returns-then-self-at : goal.returns-then-self-at
@@ -13,4 +13,4 @@ returns-then-self-at c h =
 pub returns-else-self-at : goal.returns-else-self-at
 returns-else-self-at c =
     let s = c.args.self.now in
-    row-found s.places s.longest s.words.now c.args.place c.in-Some.at c.in-Some.ensures (omega arith) c.if-self-at.false
+    row_found s.places s.longest s.words.now c.args.place c.in-Some.at c.in-Some.ensures (omega arith) c.if-self-at.false

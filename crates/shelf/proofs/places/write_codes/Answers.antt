@@ -1,7 +1,7 @@
 use Rattle.std.proofs.Common.{◌+◌, drop, refl, ap, ◌∙◌, arith}
 use Rattle.shelf.specs.Answers.{after_adds}
 use Rattle.shelf.specs.View.{View}
-use Rattle.shelf.proofs.Writing.{part_none, part-more, part_done, adds_more, adds_done}
+use Rattle.shelf.proofs.Writing.{part_none, part_more, part_done, adds_more, adds_done}
 use Rattle.shelf.proofs.places.write_codes.Goals as goal
 
 pub loop-c-init : goal.loop-c-init
@@ -15,7 +15,7 @@ loop-c-preserved g c h =
     let cs = c.args.codes.now in (
       a.fine,
       ap (λ (w : View). after_adds w c.args.place (drop (k + 1) cs)) a.view ∙ adds_more (g.S.Shelf.view c.loop-c.shelf) c.args.place cs k i.1 (omega arith),
-      λ w. part-more (g.S.Shelf.sound _ h) w (omega arith) (i.2 w) a.view,
+      λ w. part_more (g.S.Shelf.sound _ h) w (omega arith) (i.2 w) a.view,
     )
 
 pub returns : goal.returns

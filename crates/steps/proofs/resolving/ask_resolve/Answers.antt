@@ -82,5 +82,5 @@ returns g c =
     all_passed k.scale v (cell_here k l i) (cell_here k l j) z i j x to (c.in_ok-ask_sources.ensures h) h₂ _ (c.in_ok-weighed.ensures ∙ d) in
     record {
       is = λ h. (passed h).0;
-      resolution = λ h. record { empty-is = c.in_ok-empty.ensures.empty h ∙ ap has_empty same; with_i_is = wi; with_j_is = wj; dues_are = (passed h).1 };
+      resolution = λ h. record { empty_is = c.in_ok-empty.ensures.empty h ∙ ap has_empty same; with_i_is = wi; with_j_is = wj; dues_are = (passed h).1 };
     }

@@ -49,5 +49,5 @@ returns g c =
           let a₂ = sym c.is_sealed.ensures ∙ c.if-not-is_sealed.false in
           let a₇ = sym c.is_plan.ensures ∙ c.if-not-is_plan.false in
           let q = show_pass k.scale s x a₁ a₂ a₇ (sym (c.meets_hard.ensures h) ∙ c.if-not-meets_hard.false) c.if-self.false _ (c.in_ok-owing.ensures h) in
-          record { cost_is = q.1; count-is = q.2 };
+          record { cost_is = q.1; count_is = q.2 };
     }

@@ -61,8 +61,8 @@ returns-in_ok-proved-in-Some g c =
           (soft_pass k.scale s c.args.place xs cs (c.in_ok-count.ensures.is h) t.0 (k.figures c.in-Some.taken.0) e (ap (λ (y : Taken). y.amount) t.1) (empty_test c.args.clause.now) _ c.in_ok-proved-in-Some.ensures).0;
       accepted = λ h. record {
         copied = c.in_ok-count.ensures.copied h;
-        amount-is = ap (λ (y : Taken). y.amount) t.1;
-        total-is = ap (λ (y : Taken). y.total) t.1;
+        amount_is = ap (λ (y : Taken). y.amount) t.1;
+        total_is = ap (λ (y : Taken). y.total) t.1;
         proved_is =
             (soft_pass k.scale s c.args.place xs cs (c.in_ok-count.ensures.is h) t.0 (k.figures c.in-Some.taken.0) e (ap (λ (y : Taken). y.amount) t.1) (empty_test c.args.clause.now) _ c.in_ok-proved-in-Some.ensures).1;
       };

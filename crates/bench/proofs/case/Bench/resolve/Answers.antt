@@ -58,7 +58,7 @@ returns g c =
           step_granted put.fine s (resolve_asks k.scale v (cell_in k.scale s i) (cell_in k.scale s j) s.bench.proved i j x to) (worked (resolve_done k.scale s i j x to)) (c.in_ok-ask_step.ensures h) passed
           (resolved_state k.scale s i j x to (dues_of k.figures r.weighed) r.with_i r.with_j c.mark_after-mark.result _ _
           res.dues_are res.with_i_is res.with_j_is
-          (c.mark_after-mark.ensures ∙ ap (λ (e : Bool). s.bench.impossible || (e && is_hard (cell_of k.figures r.weighed.common))) res.empty-is)
+          (c.mark_after-mark.ensures ∙ ap (λ (e : Bool). s.bench.impossible || (e && is_hard (cell_of k.figures r.weighed.common))) res.empty_is)
           put.view put.cells);
       refused = tt;
     }

@@ -27,7 +27,7 @@ returns g c =
     record {
       did = λ h.
           let b = c.in_ok-owing.ensures.bill h in
-          granting h s (show_questions k.scale s x) (show_done s x) (c.in_ok-owing.ensures.is h) (ap₂ shown_at b.cost_is b.count-is)
+          granting h s (show_questions k.scale s x) (show_done s x) (c.in_ok-owing.ensures.is h) (ap₂ shown_at b.cost_is b.count_is)
           (same_state (ap (with_shown s.bench) b.cost_is) refl refl);
       refused = tt;
     }

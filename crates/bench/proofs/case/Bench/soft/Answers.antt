@@ -52,7 +52,7 @@ returns-then-clause-ne0 g c =
           → Laid (g.S.Shelf.fine c.put_clause.new.shelf) (g.S.Shelf.view c.put_clause.new.shelf) (with_held v (set v.held p ys)) (cells_of k c.put_clause.new.ledger) (set l p (soft (k.figures a.amount))) in
           let put = subst F took.copied (c.put_clause.ensures h) (may_write s p cs q.0 q.1 n) in
           granting put.fine s (soft_questions k.scale s p xs cs) (grants (soft_done s p xs cs)) passed refl
-          (same_state (soft_sums s.bench xs (k.figures a.total) (k.figures a.proved) cs took.total-is took.proved_is) put.view (put.cells ∙ ap (λ (y : List ℤ). set l p (soft y)) took.amount-is)
+          (same_state (soft_sums s.bench xs (k.figures a.total) (k.figures a.proved) cs took.total_is took.proved_is) put.view (put.cells ∙ ap (λ (y : List ℤ). set l p (soft y)) took.amount_is)
           ∙ ap (λ (b : Bool). cond b given (placed given p cs (soft xs))) (sym n));
       refused = tt;
     }
@@ -75,7 +75,7 @@ returns-else-clause-ne0 g c =
           let passed = c.in_ok-accepted.ensures.is h in
           let took = c.in_ok-accepted.ensures.accepted h in
           granting h s (soft_questions k.scale s p xs cs) (grants (soft_done s p xs cs)) passed refl
-          (same_state (soft_sums s.bench xs (k.figures a.total) (k.figures a.proved) cs took.total-is took.proved_is) refl refl
+          (same_state (soft_sums s.bench xs (k.figures a.total) (k.figures a.proved) cs took.total_is took.proved_is) refl refl
           ∙ ap (λ (b : Bool). cond b given (placed given p cs (soft xs))) (sym n));
       refused = tt;
     }

@@ -1,6 +1,6 @@
 use Rattle.std.proofs.Common.{sym, ◌∙◌, arith}
 use Rattle.results.specs.Parents.{codes_of}
-use Rattle.results.proofs.Listing.{first-at, second_at, at_none, wanted_length}
+use Rattle.results.proofs.Listing.{first_at, second_at, at_none, wanted_length}
 use Rattle.results.proofs.parents.ParentsListed.result.Goals as goal
 
 pub returns-then-k-firsts : goal.returns-then-k-firsts
@@ -11,7 +11,7 @@ returns-then-k-firsts c =
     record {
       low = m.low;
       is = m.is
-          ∙ first-at (codes_of ps.first) (codes_of ps.second) (codes_of ps.first_rest) (codes_of ps.second_rest) ps.with_first ps.with_second
+          ∙ first_at (codes_of ps.first) (codes_of ps.second) (codes_of ps.first_rest) (codes_of ps.second_rest) ps.with_first ps.with_second
           c.args.t c.if_wanted-firsts.result f c.if-t-eq0.false c.if-k-firsts.true;
     }
 
