@@ -4,3 +4,5 @@
 #![tactic(auto)]
 
 pub mod case;
+
+pub use faults::fault;

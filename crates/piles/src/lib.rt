@@ -8,3 +8,6 @@
 pub mod cases;
 pub mod mask_memory;
 pub mod row_memory;
+
+pub use crate::cases::one_clause_on_rows;
+pub use crate::row_memory::{open_rows, reopen_rows};

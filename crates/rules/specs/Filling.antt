@@ -8,7 +8,7 @@
 --   placed        the state with a clause and its cell at a place
 --   with_bench    the state with another case; marked, with_sums: the case with its
 --                 mark set, or with other sums
---   X-questions, X-done, X-does   the questions of a call, the state once it is
+--   X_questions, X_done, X_does   the questions of a call, the state once it is
 --                 granted, and its outcome
 use Rattle.std.specs.Prelude.{ℕ, Bool, true, cond, not, ◌&&◌, ◌||◌, List, [], ◌∷◌, ◌++◌, length, replicate, ℤ, pos, ◌==◌, int_le, nat_le, slice_set}
 use Rattle.std.specs.Ordering.{is_eq}

@@ -15,7 +15,7 @@
 --   results_at, common   a resolve's results, and their cell
 --   taken_in      the case once an empty result, if there is one, has been taken in
 --   is_shown, costs_more   questions 14 and 15
---   X-questions, X-done, X-does   as for the other calls
+--   X_questions, X_done, X_does   as for the other calls
 use Rattle.std.specs.Prelude.{ℕ, ◌+◌, ◌*◌, Bool, true, false, cond, not, ◌&&◌, ◌||◌, List, [], ◌∷◌, ◌++◌, length, ℤ, Some, None, Option, ◌==◌, nat_le, nat_lt, slice_set}
 use Rattle.std.specs.Ordering.{is_gt}
 use Rattle.shelf.specs.Literals.{among, stands, put, none}

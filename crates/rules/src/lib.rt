@@ -6,7 +6,7 @@
 ghost use Rattle.rules.specs.Examples.{Examples};
 ghost use Rattle.rules.specs.Laws.{OnlyHeld, ShownCost};
 
-// The examples that the planners marked, and two more, by computation.
+// The worked examples, by computation.
 pub fn examples_stand() -> u8
     ensures { Examples }
 {

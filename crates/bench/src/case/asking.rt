@@ -8,7 +8,7 @@ ghost use Rattle.bench.specs.Asked.{clause_told};
 ghost use Rattle.bench.specs.Meaning.{phase_of};
 
 use crate::case::Phase;
-use clauses::given::{copy_codes, known_variables, literals_rise};
+use clauses::given::{copy_codes, known_variables, rises};
 use cost::kind::CostKind;
 use ledger::cell::Cell;
 use shelf::literal::Literal;
@@ -66,11 +66,12 @@ pub(crate) fn take_clause<S: Shelf>(
     ensures low { IfSome result (λ m. m ≤ 255) }
     ensures is { S.fine shelf.now → clause_told out.new result ≡ (if clause_fits n (S.view shelf.now) (codes_of clause.now) then Some (codes_of clause.now) else None) }
 {
+    let count = copy_codes(clause, out);
     if clause.len() > shelf.longest_clause() {
         return None;
     }
-    if !literals_rise(clause, known_variables(shelf, n)) {
+    if !rises(&out[..count], known_variables(shelf, n)) {
         return None;
     }
-    Some(copy_codes(clause, out))
+    Some(count)
 }
