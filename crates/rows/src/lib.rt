@@ -182,6 +182,7 @@ impl<'a> Shelf for RowShelf<'a> {
     }
 
     // Whether the literal is in the row.
+    #[tactic(auto, unfolding(shelf::specs::Literals::among))]
     fn holds(&self, place: usize, literal: Literal) -> bool {
         match self.row(place) {
             None => false,
