@@ -1,8 +1,8 @@
 -- A clause that was copied to scratch memory, asked whether it fits, and written
 -- to a place.
-use Rattle.std.proofs.Common.{◌≡◌, ℕ, ◌<◌, ◌≤◌, min, Bool, true, false, cond, ◌||◌, leb, List, [], ◌∷◌, length, take, Some, None, sym, refl, ap, ◌∙◌, arith}
-use Rattle.std.proofs.lemmas.List.{length-map, take_all}
-use Rattle.std.proofs.lemmas.Bool.{lt-leb, le-leb, leb-true, and_left, and_right, and_from, and_parts}
+use Rattle.std.proofs.Common.{◌≡◌, ℕ, ◌<◌, ◌≤◌, Bool, true, false, cond, ◌||◌, eqb, leb, List, [], ◌∷◌, map, length, take, Some, None, sym, refl, ap, ◌∙◌, arith}
+use Rattle.std.proofs.lemmas.List.{length-map, map-id, take_all}
+use Rattle.std.proofs.lemmas.Bool.{lt-leb, le-leb, leb-true, ne_eqb, and_left, and_right, and_from, and_parts}
 use Rattle.shelf.specs.Literals.{none}
 use Rattle.shelf.specs.Room.{vacant, Writable}
 use Rattle.shelf.specs.View.{View}
@@ -16,10 +16,12 @@ use Rattle.rules.specs.Questions.{Verdict, passes, reply_of, after_reply}
 use Rattle.steps.proofs.Verdicts.{yes_then}
 
 -- a clause that is short enough was copied whole
-pub copied : (ls : List Literal) (n L : ℕ) (out : List ℕ) → n ≡ min (length ls) 255 → take n out ≡ take n (codes ls) → length ls ≤ L → L ≤ 255 → take n out ≡ codes ls
-copied ls n L out e t l h =
-    let m : length (codes ls) ≤ n = simp length-map (omega arith) in
-    t ∙ take_all n (codes ls) m
+pub copied : (ls : List Literal) {L : ℕ} {out : List ℕ} → out ≡ take 255 (codes ls) → length ls ≤ L → L ≤ 255 → out ≡ codes ls
+copied ls e l h = let m : length (codes ls) ≤ 255 = simp length-map (omega arith) in e ∙ take_all 255 (codes ls) m
+
+-- the copied codes rise where those of the clause do
+pub rises_copied : (n : ℕ) (v : View) {b : Bool} {top : ℕ} {xs cs : List ℕ} → b ≡ rises top 0 (map (λ c. c) xs) → xs ≡ cs → top ≡ known n v → b ≡ rises (known n v) 0 cs
+rises_copied n v {xs = xs} {cs = cs} b e t = b ∙ ap (rises _ 0) (map-id xs ∙ e) ∙ ap (λ i. rises i 0 cs) t
 
 pub too_long : (n : ℕ) (v : View) (ls : List Literal) → v.longest < length ls → None ≡ cond (clause_fits n v (codes ls)) (Some (codes ls)) None
 too_long n v ls h =
@@ -39,13 +41,16 @@ writable n v p cs f e =
     let q = and_parts (rises (known n v) 0 cs) (leb (length cs) v.longest) f in
     record { is_vacant = e; rises = rising (known n v) v.highest 0 cs (omega arith) q.0; short = leb-true (length cs) v.longest q.1 }
 
-pub none_given : (ls : List Literal) → length ls ≡ 0 → none (codes ls) ≡ true
-none_given [] e = refl
-none_given (l ∷ ls) e = absurd (omega (arith, e))
+-- what the code's test for an empty clause tells
+pub empty_test : (ls : List Literal) → eqb (length ls) 0 ≡ none (codes ls)
+empty_test [] = refl
+empty_test (l ∷ ls) = ne_eqb (length (l ∷ ls)) 0 (λ e. omega arith)
 
-pub some_given : (ls : List Literal) → (length ls ≡ 0 → ⊥) → none (codes ls) ≡ false
-some_given [] e = absurd (e refl)
-some_given (l ∷ ls) e = refl
+pub none_given : (ls : List Literal) {b : Bool} → b ≡ eqb (length ls) 0 → b ≡ true → none (codes ls) ≡ true
+none_given ls e t = sym (e ∙ empty_test ls) ∙ t
+
+pub some_given : (ls : List Literal) {b : Bool} → b ≡ eqb (length ls) 0 → b ≡ false → none (codes ls) ≡ false
+some_given ls e t = sym (e ∙ empty_test ls) ∙ t
 
 -- the clause fits, and its place is free unless it is empty
 pub clause_passed : (s : State) (p : ℕ) (cs : List ℕ) (rest : Verdict) → passes ≡ after_reply 1 (reply_of (ledger_long s)) (after_reply 2 (reply_of (at_filling s.bench.phase)) (after_reply 4 (reply_of (clause_fits s.bench.n s.shelf cs)) (after_reply 5 (reply_of (none cs || vacant s.shelf p)) rest)))

@@ -1,10 +1,11 @@
 -- A call asks all its questions without change and then does all that it does: so
 -- its outcome follows from the verdict, and from the effect where it is granted.
-use Rattle.std.proofs.Common.{◌≡◌, ℕ, false, List, ℤ, None, ap, ◌∙◌}
+use Rattle.std.proofs.Common.{◌≡◌, ℕ, Bool, false, List, [], ◌∷◌, ℤ, None, ap, ◌∙◌}
 use Rattle.shelf.specs.View.{View}
 use Rattle.rules.specs.Cells.{Cell}
 use Rattle.rules.specs.Case.{Case, State, filling}
-use Rattle.rules.specs.Questions.{Question, passes, stops, first_no, Answer, refused, Outcome, outcome}
+use Rattle.rules.specs.Filling.{ledger_long}
+use Rattle.rules.specs.Questions.{Question, asks, passes, stops, first_no, Answer, refused, Outcome, outcome}
 use Rattle.faults.specs.declared.fault.Fault.{Fault}
 use Rattle.faults.specs.Faults.{number_of, tier_of}
 use Rattle.bench.specs.Meaning.{Done}
@@ -15,6 +16,13 @@ module _ {F : Type 0} (f : F) (s : State) (qs : List Question) (o : Outcome) whe
 
   pub granting : {a : Answer} {t : State} → passes ≡ first_no qs → a ≡ o.answer → t ≡ o.after → Done F a t (outcome (first_no qs) s o)
   granting h p q = record { fine = f; answer = p ∙ ap (λ v. (outcome v s o).answer) h; after = q ∙ ap (λ v. (outcome v s o).after) h }
+
+-- questions 1 and 2, where the code's test of the phase is the rules'
+abbrev pub state_questions : State → Bool → List Question
+state_questions s b = asks 1 (ledger_long s) ∷ asks 2 b ∷ []
+
+pub fitting_state : (s : State) {b d : Bool} → b ≡ d → first_no (state_questions s b) ≡ first_no (state_questions s d)
+fitting_state s e = ap (λ b. first_no (state_questions s b)) e
 
 -- three parts that are equal make equal states
 pub opened : {z w : List ℤ} {v v' : View} {l l' : List Cell} (n : ℕ) → z ≡ w → v ≡ v' → l ≡ l'

@@ -1,9 +1,7 @@
 -- The verdict on a soft clause: first what hard is asked too, then its amount.
-use Rattle.std.proofs.Common.{◌≡◌, ℕ, Bool, true, false, eqb, List, [], ◌∷◌, length, ℤ, Ok, Err, Result, sym, refl, ap, ◌∙◌, arith}
-use Rattle.std.proofs.lemmas.Bool.{ne_eqb}
+use Rattle.std.proofs.Common.{◌≡◌, ℕ, Bool, true, false, List, [], ◌∷◌, ℤ, Some, None, Ok, Err, Option, Result, sym, refl, ap, ◌∙◌}
+use Rattle.std.specs.Option.{ok_or}
 use Rattle.shelf.specs.Literals.{none}
-use Rattle.shelf.specs.declared.literal.Literal.{Literal}
-use Rattle.clauses.specs.Codes.{codes}
 use Rattle.cost.specs.Figures.{plus}
 use Rattle.cost.specs.Reach.{Scale}
 use Rattle.ledger.specs.Dues.{told_by}
@@ -13,9 +11,14 @@ use Rattle.rules.specs.Filling.{amount_fits, with_sums, clause_questions, soft_q
 use Rattle.rules.specs.Questions.{Reply, Question, asks, passes, stops, reply_of, after_reply, reach_reply, first_no}
 use Rattle.steps.proofs.Verdicts.{stop_early, go_on, told_ok, told_err}
 
-pub empty_test : (ls : List Literal) → eqb (length ls) 0 ≡ none (codes ls)
-empty_test [] = refl
-empty_test (l ∷ ls) = ne_eqb (length (l ∷ ls)) 0 (λ e. omega arith)
+-- an amount that was taken, or was not, and then stands for a fault
+pub not_taken : {X E : Type 0} (o : Option X) (e : E) {f : E} → Err f ≡ ok_or o e → (None ≡ o) × (f ≡ e)
+not_taken None e h = (refl, cc)
+not_taken (Some x) e h = (cc, cc)
+
+pub was_taken : {X E : Type 0} (o : Option X) (e : E) {x : X} → Ok x ≡ ok_or o e → Some x ≡ o
+was_taken None e h = cc
+was_taken (Some y) e h = cc
 
 module _ (k : Scale) (s : State) (p : ℕ) (xs : List ℤ) (cs : List ℕ) where
   abbrev reply : Reply

@@ -12,28 +12,50 @@ use Rattle.rules.specs.Case.{Case, State, working, with_phase}
 use Rattle.rules.specs.Cells.{Cell, soft, is_hard, amounts_to_nothing, joined}
 use Rattle.rules.specs.Questions.{Question, passes, stops, first_no, granted, refused, Outcome, outcome, grants}
 use Rattle.rules.specs.Results.{kept, has_empty, laid, alike}
-use Rattle.rules.specs.Steps.{step_fits, worked, freed_if, cell_in, results_at, resolve_done, join_done, one_more}
+use Rattle.rules.specs.Steps.{step_fits, worked, freed_if, cell_in, results_at, one_more, split_done, split_does, join_done, join_does, resolve_done, resolve_does, define_done, define_does, harden_done, harden_does}
 use Rattle.results.specs.Resolving.{resolvents_at}
 use Rattle.steps.proofs.Resolved.{same_results}
 use Rattle.steps.proofs.Verdicts.{stop_early, go_on}
 use Rattle.steps.specs.Asked.{left_view, left_cells}
+use Rattle.steps.specs.Asks.{split_asks, join_asks, resolve_asks, define_asks, harden_asks}
 use Rattle.bench.specs.Meaning.{Done}
 use Rattle.bench.proofs.Doing.{refusing, granting, same_state}
 
--- qs are the step's own questions, and u is the state that it leaves
-module _ {F : Type 0} (f : F) (s : State) (qs : List Question) (u : State) where
-  abbrev step_outcome : Outcome
-  step_outcome = outcome (first_no (step_fits s ++ qs)) s (grants u)
+-- o is what a step does that asks qs, after what every step is asked first, and leaves u
+pub record Step (s : State) (qs : List Question) (u : State) (o : Outcome) : Type 0 where
+  is : o ≡ outcome (first_no (step_fits s ++ qs)) s (grants u)
 
-  pub refused_first : (e : Fault) → stops (number_of e) (tier_of e) ≡ first_no (step_fits s) → Done F (refused (number_of e) (tier_of e)) s step_outcome
-  refused_first e h = refusing f s (step_fits s ++ qs) (grants u) e (stop_early (step_fits s) qs (number_of e) (tier_of e) h)
+module _ {F : Type 0} (f : F) {s : State} {qs : List Question} {u : State} {o : Outcome} (step : Step s qs u o) where
+  pub refused_first : (e : Fault) → stops (number_of e) (tier_of e) ≡ first_no (step_fits s) → Done F (refused (number_of e) (tier_of e)) s o
+  refused_first e h = rw step.is (refusing f s (step_fits s ++ qs) (grants u) e (stop_early (step_fits s) qs (number_of e) (tier_of e) h))
 
   module _ (h₁ : passes ≡ first_no (step_fits s)) where
-    pub refused_then : (e : Fault) → stops (number_of e) (tier_of e) ≡ first_no qs → Done F (refused (number_of e) (tier_of e)) s step_outcome
-    refused_then e h = refusing f s (step_fits s ++ qs) (grants u) e (h ∙ go_on (step_fits s) qs h₁)
+    pub refused_then : (e : Fault) → stops (number_of e) (tier_of e) ≡ first_no qs → Done F (refused (number_of e) (tier_of e)) s o
+    refused_then e h = rw step.is (refusing f s (step_fits s ++ qs) (grants u) e (h ∙ go_on (step_fits s) qs h₁))
 
-    pub step_granted : {t : State} → passes ≡ first_no qs → t ≡ u → Done F granted t step_outcome
-    step_granted h e = granting f s (step_fits s ++ qs) (grants u) (h ∙ go_on (step_fits s) qs h₁) refl e
+    pub step_granted : {t : State} → passes ≡ first_no qs → t ≡ u → Done F granted t o
+    step_granted h e = rw step.is (granting f s (step_fits s ++ qs) (grants u) (h ∙ go_on (step_fits s) qs h₁) refl e)
+
+-- the five steps
+pub split_step : (k : Scale) (s : State) (p x to : ℕ) → Step s (split_asks s.shelf s.bench.current p x to) (worked (split_done k s p x to)) (split_does k s p x to)
+unfolding split_does
+split_step k s p x to = record { is = refl }
+
+pub join_step : (k : Scale) (s : State) (i j : ℕ) → Step s (join_asks k s.shelf (cell_in k s i) (cell_in k s j) i j) (worked (join_done k s i j)) (join_does k s i j)
+unfolding join_does
+join_step k s i j = record { is = refl }
+
+pub resolve_step : (k : Scale) (s : State) (i j x to : ℕ) → Step s (resolve_asks k s.shelf (cell_in k s i) (cell_in k s j) s.bench.proved i j x to) (worked (resolve_done k s i j x to)) (resolve_does k s i j x to)
+unfolding resolve_does
+resolve_step k s i j x to = record { is = refl }
+
+pub define_step : (k : Scale) (s : State) (to : ℕ) (ls : List ℕ) → Step s (define_asks s.shelf s.bench.current to ls) (worked (define_done s to ls)) (define_does k s to ls)
+unfolding define_does
+define_step k s to ls = record { is = refl }
+
+pub harden_step : (k : Scale) (s : State) (i : ℕ) → Step s (harden_asks s.shelf (cell_in k s i) s.bench.proved s.bench.shown i) (worked (harden_done s i)) (harden_does k s i)
+unfolding harden_does
+harden_step k s i = record { is = refl }
 
 -- what is left of a join
 pub joined_state : (k : Scale) (s : State) (i j : ℕ) (c : Cell) (v : View) (l : List Cell) → c ≡ joined (cell_in k s i) (cell_in k s j)

@@ -1,10 +1,10 @@
 -- What the questions of a call came to, before anything is changed.
 --
 --   clause_told    the codes that were copied, where a clause fits
---   Copied         on a grant, the front of `out` is the clause
 --   Accepts, SoftTaken    on a grant, what a soft clause comes to
 --   Bills, BillOf         on a grant, the shown plan's cost and count
-use Rattle.std.specs.Prelude.{◌≡◌, ℕ, List, length, take, ℤ, Some, None, Ok, Err, Option, Result}
+use Rattle.std.specs.Prelude.{◌≡◌, ℕ, List, length, ℤ, Some, None, Ok, Err, Option, Result}
+use Rattle.arrayvec.specs.ArrayVec.{ArrayVec}
 use Rattle.cost.specs.Figures.{plus}
 use Rattle.faults.specs.declared.fault.Fault.{Fault}
 use Rattle.rules.specs.Cells.{soft, paid}
@@ -12,25 +12,20 @@ use Rattle.rules.specs.Showing.{summed}
 use Rattle.shelf.specs.Literals.{none}
 use Rattle.bench.specs.declared.case.accepted.Accepted.{Accepted}
 
-abbrev pub clause_told : List ℕ → Option ℕ → Option (List ℕ)
-clause_told out None = None
-clause_told out (Some n) = Some (take n out)
-
--- on a grant, the front of `out` is the clause
-abbrev pub Copied : List ℕ → List ℕ → Result ℕ Fault → Type 0
-Copied out cs (Ok n) = take n out ≡ cs
-Copied out cs (Err e) = Unit {0}
+abbrev pub clause_told : Option (ArrayVec ℕ) → Option (List ℕ)
+clause_told None = None
+clause_told (Some v) = Some v.items
 
 -- on a grant, what a soft clause comes to, by exact figures
-pub record SoftTaken {A : Type 0} (f : A → List ℤ) (out cs : List ℕ) (xs total proved : List ℤ) (a : Accepted A) : Type 0 where
-  pub copied : take a.count out ≡ cs
+pub record SoftTaken {A : Type 0} (f : A → List ℤ) (cs : List ℕ) (xs total proved : List ℤ) (a : Accepted A) : Type 0 where
+  pub copied : a.codes.items ≡ cs
   pub amount_is : f a.amount ≡ xs
   pub total_is : f a.total ≡ plus total xs
   pub proved_is : f a.proved ≡ paid (none cs) (soft xs) proved
 
-abbrev pub Accepts : {A : Type 0} → (A → List ℤ) → List ℕ → List ℕ → List ℤ → List ℤ → List ℤ → Result (Accepted A) Fault → Type 0
-Accepts f out cs xs total proved (Ok a) = SoftTaken f out cs xs total proved a
-Accepts f out cs xs total proved (Err e) = Unit {0}
+abbrev pub Accepts : {A : Type 0} → (A → List ℤ) → List ℕ → List ℤ → List ℤ → List ℤ → Result (Accepted A) Fault → Type 0
+Accepts f cs xs total proved (Ok a) = SoftTaken f cs xs total proved a
+Accepts f cs xs total proved (Err e) = Unit {0}
 
 -- on a grant, the shown plan's cost and how many soft clauses it leaves unmet
 pub record BillOf {A : Type 0} (f : A → List ℤ) (z : List ℤ) (os : List (List ℤ)) (p : A × ℕ) : Type 0 where

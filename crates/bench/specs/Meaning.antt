@@ -6,7 +6,6 @@
 --   granted_told, shown_told, cheapest_told   the rules' answer of a result
 --   Done         what a call did: the shelf in order after, the answer and the
 --                state after those of an outcome
---   IfRefused, IfGranted   a fact where a result is a refusal, or is none
 use Rattle.std.specs.Prelude.{◌≡◌, ℕ, List, ℤ, Ok, Err, Result}
 use Rattle.cost.specs.Kinds.{Kind}
 use Rattle.shelf.specs.View.{View}
@@ -63,11 +62,3 @@ pub record Done (fine_after : Type 0) (a : Answer) (s : rules.State) (o : Outcom
   pub fine : fine_after
   pub answer : a ≡ o.answer
   pub after : s ≡ o.after
-
-abbrev pub IfRefused : {X : Type 0} → Result X Fault → Type 0 → Type 0
-IfRefused (Ok x) P = Unit {0}
-IfRefused (Err e) P = P
-
-abbrev pub IfGranted : {X : Type 0} → Result X Fault → Type 0 → Type 0
-IfGranted (Ok x) P = P
-IfGranted (Err e) P = Unit {0}

@@ -1,20 +1,25 @@
 -- One turn of each loop over a list: what is left of the list still decides what
 -- the whole did.
-use Rattle.std.proofs.Common.{◌≡◌, ℕ, suc, ◌+◌, ◌/◌, ◌<◌, ◌≤◌, Bool, true, false, ◌&&◌, ◌||◌, eqb, ltb, leb, List, [], ◌∷◌, length, get_or, drop, sym, refl, ap, ◌∙◌, ap₂, arith}
-use Rattle.std.proofs.lemmas.List.{drop_more, drop_all, get_or-map, length-map}
-use Rattle.std.proofs.lemmas.Bool.{lt-ltb, le-ltb, le-leb, lt-leb, eq-eqb, ne_eqb, and_left, and_right, and_parts, leb-true, ltb-true, or_left}
+use Rattle.std.proofs.Common.{◌≡◌, ℕ, min, map, take, suc, ◌+◌, ◌/◌, ◌<◌, ◌≤◌, Bool, true, false, ◌&&◌, eqb, ltb, leb, List, [], ◌∷◌, length, get_or, drop, sym, refl, ap, ◌∙◌, arith}
+use Rattle.std.proofs.lemmas.List.{drop_more, drop_all, get_or-map, length-map, take_min}
+use Rattle.std.proofs.lemmas.Bool.{lt-ltb, le-ltb, le-leb, lt-leb, and_left, and_right, and_parts, leb-true, ltb-true}
 use Rattle.shelf.specs.declared.literal.Literal.{Literal}
 use Rattle.shelf.specs.Literals.{Rising, variable}
 use Rattle.rules.specs.Clauses.{rises, same_codes}
-use Rattle.rules.specs.Plans.{makes_true, meets, bits}
 use Rattle.clauses.specs.Codes.{codes}
 
--- the code of the k-th literal
-pub code_at : (ls : List Literal) (k : ℕ) → k < length ls → get_or (codes ls) k 0 ≡ (get_or ls k (record { code = 0 })).code
-code_at ls k h = get_or-map (λ (l : Literal). l.code) ls k (record { code = 0 }) 0 h
+-- the code of the k-th item
+pub coded_at : {A : Type 0} (f : A → ℕ) (xs : List A) (k : ℕ) {x : A} {n : ℕ} → k < length xs → x ≡ get_or xs k x → n ≡ f x → get_or (map f xs) k 0 ≡ n
+coded_at f xs k {x = x} h i e = get_or-map f xs k x 0 h ∙ ap f (sym i) ∙ sym e
 
 pub codes_length : (ls : List Literal) → length (codes ls) ≡ length ls
 codes_length ls = length-map ls (λ (l : Literal). l.code)
+
+-- the first codes, as many as there are
+pub taken_codes : (ls : List Literal) (k n : ℕ) → k ≡ min n (length ls) → take k (codes ls) ≡ take n (codes ls)
+taken_codes ls k n e =
+    let l : k ≡ min n (length (codes ls)) = e ∙ ap (min n) (sym (codes_length ls)) in
+    ap (λ (j : ℕ). take j (codes ls)) l ∙ take_min n (codes ls)
 
 module _ (V : ℕ) (cs : List ℕ) (b k : ℕ) (t : Bool) (so_far : rises V b (drop k cs) ≡ t) where
   abbrev here : ℕ
@@ -38,51 +43,6 @@ module _ (V : ℕ) (cs : List ℕ) (b k : ℕ) (t : Bool) (so_far : rises V b (d
   pub rises_done : length cs ≤ k → true ≡ t
   unfolding rises
   rises_done h = ap (rises V b) (sym (drop_all k cs h)) ∙ so_far
-
-module _ (x : List ℕ) (k : ℕ) (t : Bool) (so_far : bits (drop k x) ≡ t) where
-  bits_turn : k < length x → (leb (get_or x k 0) 1 && bits (drop (k + 1) x)) ≡ t
-  unfolding bits
-  bits_turn h = ap bits (sym (drop_more x k 0 h)) ∙ so_far
-
-  pub bits_stop : k < length x → 1 < get_or x k 0 → false ≡ t
-  bits_stop h l = sym (and_left (leb (get_or x k 0) 1) (bits (drop (k + 1) x)) (lt-leb (get_or x k 0) 1 l)) ∙ bits_turn h
-
-  pub bits_more : k < length x → get_or x k 0 ≤ 1 → bits (drop (k + 1) x) ≡ t
-  bits_more h l = ap (λ (y : Bool). y && bits (drop (k + 1) x)) (sym (le-leb (get_or x k 0) 1 l)) ∙ bits_turn h
-
-  pub bits_done : length x ≤ k → true ≡ t
-  unfolding bits
-  bits_done h = ap bits (sym (drop_all k x h)) ∙ so_far
-
-module _ (x cs : List ℕ) (k : ℕ) (t : Bool) (so_far : meets x (drop k cs) ≡ t) where
-  meets_turn : k < length cs → (makes_true x (get_or cs k 0) || meets x (drop (k + 1) cs)) ≡ t
-  unfolding meets
-  meets_turn h = ap (meets x) (sym (drop_more cs k 0 h)) ∙ so_far
-
-  pub meets_here : k < length cs → makes_true x (get_or cs k 0) ≡ true → true ≡ t
-  meets_here h e = sym (or_left (makes_true x (get_or cs k 0)) (meets x (drop (k + 1) cs)) e) ∙ meets_turn h
-
-  pub meets_more : k < length cs → makes_true x (get_or cs k 0) ≡ false → meets x (drop (k + 1) cs) ≡ t
-  meets_more h e = ap (λ (y : Bool). y || meets x (drop (k + 1) cs)) (sym e) ∙ meets_turn h
-
-  pub meets_none : length cs ≤ k → false ≡ t
-  unfolding meets
-  meets_none h = ap (meets x) (sym (drop_all k cs h)) ∙ so_far
-
-module _ (xs ys : List ℕ) (k : ℕ) (t : Bool) (so_far : same_codes (drop k xs) (drop k ys) ≡ t) where
-  same_turn : k < length xs → k < length ys → (eqb (get_or xs k 0) (get_or ys k 0) && same_codes (drop (k + 1) xs) (drop (k + 1) ys)) ≡ t
-  unfolding same_codes
-  same_turn h l = ap₂ same_codes (sym (drop_more xs k 0 h)) (sym (drop_more ys k 0 l)) ∙ so_far
-
-  pub same_stop : k < length xs → k < length ys → (get_or xs k 0 ≡ get_or ys k 0 → ⊥) → false ≡ t
-  same_stop h l ne = sym (and_left (eqb (get_or xs k 0) (get_or ys k 0)) (same_codes (drop (k + 1) xs) (drop (k + 1) ys)) (ne_eqb (get_or xs k 0) (get_or ys k 0) ne)) ∙ same_turn h l
-
-  pub same_more : k < length xs → k < length ys → get_or xs k 0 ≡ get_or ys k 0 → same_codes (drop (k + 1) xs) (drop (k + 1) ys) ≡ t
-  same_more h l e = ap (λ (x : Bool). x && same_codes (drop (k + 1) xs) (drop (k + 1) ys)) (sym (eq-eqb (get_or xs k 0) (get_or ys k 0) e)) ∙ same_turn h l
-
-  pub same_done : length xs ≤ k → length ys ≤ k → true ≡ t
-  unfolding same_codes
-  same_done h l = ap₂ same_codes (sym (drop_all k xs h)) (sym (drop_all k ys l)) ∙ so_far
 
 -- lists of unequal lengths differ
 pub unequal : (xs ys : List ℕ) → (length xs ≡ length ys → ⊥) → false ≡ same_codes xs ys

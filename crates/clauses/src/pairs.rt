@@ -10,13 +10,5 @@ pub fn same_clause<S: Shelf>(shelf: &S, i: usize, j: usize) -> bool
     ensures { S.fine shelf.now → result ≡ same_codes (clause (S.view shelf.now) i) (clause (S.view shelf.now) j) }
 {
     let n = shelf.size(i);
-    if n != shelf.size(j) {
-        return false;
-    }
-    for k in 0..n {
-        if shelf.literal(i, k).code != shelf.literal(j, k).code {
-            return false;
-        }
-    }
-    true
+    n == shelf.size(j) && (0..n).all(|k| shelf.literal(i, k) == shelf.literal(j, k))
 }

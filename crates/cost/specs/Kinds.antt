@@ -5,9 +5,12 @@
 --   Lawful    meaning is one to one with the lists in reach; an amount's own
 --             row reads as that amount, and any other row as nothing
 --   meant     what the result of an operation means: figures, or a tier's number
+--   meant_made   the same of a list that may have the wrong length, told by 0
 use Rattle.std.specs.Prelude.{◌≡◌, ℕ, ◌^◌, ◌≤◌, List, ℤ, Ok, Err, Result, ◌≢◌}
+use Rattle.cost.specs.declared.misfit.Misfit.{Misfit}
 use Rattle.cost.specs.declared.tier.Tier.{Tier}
 use Rattle.cost.specs.Figures.{zeros}
+use Rattle.cost.specs.Misfits.{tier_told}
 use Rattle.cost.specs.Reach.{Scale, Within}
 
 pub record Kind (A W : Type 0) : Type 0 where
@@ -33,3 +36,7 @@ pub record Lawful {A W : Type 0} (k : Kind A W) : Type 0 where
 abbrev pub meant : {A : Type 0} → (A → List ℤ) → Result A Tier → Result (List ℤ) ℕ
 meant f (Ok a) = Ok (f a)
 meant f (Err t) = Err t.number
+
+abbrev pub meant_made : {A : Type 0} → (A → List ℤ) → Result A Misfit → Result (List ℤ) ℕ
+meant_made f (Ok a) = Ok (f a)
+meant_made f (Err m) = Err (tier_told m)

@@ -2,22 +2,15 @@
 -- group. They hold for any number of tiers and know nothing of reach. A second
 -- law says what the tests of reach mean.
 --
---   flipped         an order seen from the other side
 --   Tiered r xs     xs has r figures
 --   OrderedGroup   the laws at r tiers; ExactFigures: at each number of tiers
 --   ReachTells     no tier is beyond exactly where all are within; and the tier
 --                   that is told is the first that is not near
 use Rattle.std.specs.Prelude.{◌≡◌, ℕ, ◌+◌, ◌<◌, List, length, ℤ, pos, Some, None, slice_index_or}
-use Rattle.std.specs.declared.cmp.Ordering.TheVariants.{Less, Equal, Greater}
-use Rattle.std.specs.declared.cmp.Ordering.{Ordering}
+use Rattle.std.specs.declared.cmp.Ordering.TheVariants.{Less, Equal}
+use Rattle.std.specs.Ordering.{ordering_reverse}
 use Rattle.cost.specs.Figures.{zeros, plus, minus, order}
 use Rattle.cost.specs.Reach.{Scale, Near, beyond, Within}
-
--- the order seen from the other side
-abbrev pub flipped : Ordering → Ordering
-flipped Less = Greater
-flipped Equal = Equal
-flipped Greater = Less
 
 -- figures of r tiers
 abbrev pub Tiered : ℕ → List ℤ → Type 0
@@ -35,7 +28,7 @@ pub record OrderedGroup (r : ℕ) : Type 0 where
   -- totally ordered
   pub order_same : (xs : List ℤ) → order xs xs ≡ Equal
   pub order_equal : (xs ys : List ℤ) → Tiered r xs → Tiered r ys → order xs ys ≡ Equal → xs ≡ ys
-  pub order_flipped : (xs ys : List ℤ) → order ys xs ≡ flipped (order xs ys)
+  pub order_flipped : (xs ys : List ℤ) → order ys xs ≡ ordering_reverse (order xs ys)
   pub order_less : (xs ys zs : List ℤ) → Tiered r xs → Tiered r ys → Tiered r zs → order xs ys ≡ Less → order ys zs ≡ Less → order xs zs ≡ Less
   -- and the order is kept by sums
   pub order_plus : (zs xs ys : List ℤ) → Tiered r xs → Tiered r ys → Tiered r zs → order (plus zs xs) (plus zs ys) ≡ order xs ys

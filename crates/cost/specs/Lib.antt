@@ -1,8 +1,9 @@
 pub mod Figures
 pub mod Reach
+pub mod Misfits
 pub mod Kinds
+pub mod Printed
 pub mod Models
 pub mod Laws
 pub mod Reaching
-pub mod MinutesCostKindLemmas
-pub mod SlotsCostKindLemmas
+pub mod KindLemmas

@@ -7,9 +7,13 @@
 --   reached k xs  xs itself, or a refusal that names its first tier out of reach
 --   made_of k xs  the same of a list that may have the wrong length, which is
 --                 refused first, with tier 0
+--   read_as k xs  what a row of these figures reads as: xs itself where it is in
+--                 reach, and else nothing
 --   Within k xs   xs has the scale's length and is in reach
-use Rattle.std.specs.Prelude.{◌≡◌, ℕ, ◌+◌, Bool, true, false, cond, ◌&&◌, List, [], ◌∷◌, length, ℤ, pos, neg_ℤ, ◌≤ℤ◌, Some, None, Ok, Err, Option, Result, ◌==◌, int_le}
+use Rattle.std.specs.Prelude.{◌≡◌, ℕ, ◌+◌, Bool, cond, ◌&&◌, List, [], ◌∷◌, length, ℤ, pos, neg_ℤ, ◌≤ℤ◌, Some, None, Ok, Err, Option, Result, ◌==◌, int_le, is_none, if◌then◌else◌}
 use Rattle.std.specs.List.{AllByRecursion}
+use Rattle.std.specs.Option.{option_map_or}
+use Rattle.cost.specs.Figures.{zeros}
 
 pub record Scale : Type 0 where
   pub tiers : ℕ
@@ -26,19 +30,14 @@ beyond_from R t (x ∷ xs) = cond (near R x) (beyond_from R (t + 1) xs) (Some t)
 abbrev pub beyond : Scale → List ℤ → Option ℕ
 beyond k xs = beyond_from k.reach 1 xs
 
-abbrev pub none_beyond : Option ℕ → Bool
-none_beyond None = true
-none_beyond (Some t) = false
-
 abbrev pub in_reach : Scale → List ℤ → Bool
-in_reach k xs = none_beyond (beyond k xs)
-
-abbrev pub unless : Option ℕ → List ℤ → Result (List ℤ) ℕ
-unless None xs = Ok xs
-unless (Some t) xs = Err t
+in_reach k xs = is_none (beyond k xs)
 
 abbrev pub reached : Scale → List ℤ → Result (List ℤ) ℕ
-reached k xs = unless (beyond k xs) xs
+reached k xs = option_map_or Err (beyond k xs) (Ok xs)
+
+abbrev pub read_as : Scale → List ℤ → List ℤ
+read_as k xs = if in_reach k xs then xs else zeros k.tiers
 
 abbrev pub made_of : Scale → List ℤ → Result (List ℤ) ℕ
 made_of k xs = cond (length xs == k.tiers) (reached k xs) (Err 0)

@@ -1,11 +1,14 @@
 // What a cost kind offers. Every step, question and answer of the bench is
-// written once over this trait.
-ghost use Rattle.std.specs.Prelude.{◌≡◌};
+// written once over this trait. It has no bodies of its own: each is a line over the kind's own
+// operators, and would here need a law for each operator.
+ghost use Rattle.std.specs.Prelude.{◌≡◌, length, not, ◌==◌, IfErr};
 ghost use Rattle.cost.specs.Figures.{zeros, plus, minus, order, figure_at};
-ghost use Rattle.cost.specs.Kinds.{Kind, Lawful, meant};
+ghost use Rattle.cost.specs.Kinds.{Kind, Lawful, meant, meant_made};
+ghost use Rattle.cost.specs.Misfits.{is_wrong_length};
 ghost use Rattle.cost.specs.Reach.{reached, made_of};
 ghost use Rattle.std.specs.Ordering.{is_gt};
 
+use crate::misfit::Misfit;
 use crate::tier::Tier;
 use std::cmp::Ordering;
 
@@ -26,11 +29,12 @@ pub trait CostKind {
     fn nothing() -> Self::Amount
         ensures { kind.figures result ≡ zeros kind.scale.tiers };
 
-    // The amount of these figures. A list of the wrong length is refused first, with tier 0.
-    fn make(figures: &[i64]) -> Result<Self::Amount, Tier>
-        ensures { meant kind.figures result ≡ made_of kind.scale figures.now };
+    // The amount of these figures. A list of the wrong length is refused first, and told by 0.
+    fn make(figures: &[i64]) -> Result<Self::Amount, Misfit>
+        ensures made { meant_made kind.figures result ≡ made_of kind.scale figures.now }
+        ensures misfit { IfErr result (λ m. is_wrong_length m ≡ not (length figures.now == kind.scale.tiers)) };
 
-    // The figure of a tier, counted from 1; 0 where there is no such tier.
+    // The figure of a tier, counted from 1; 0 where there is no such tier, as the rules have it.
     fn figure(a: Self::Amount, tier: usize) -> i64
         ensures { result ≡ figure_at (kind.figures a) tier };
 

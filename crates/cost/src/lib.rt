@@ -7,6 +7,7 @@
 pub mod amounts;
 pub mod kind;
 pub mod laws;
+pub mod misfit;
 #[cfg(test)]
 mod tests;
 pub mod tier;

@@ -1,5 +1,4 @@
-// The tier that a refusal names, counted from 1; 0 for a list of figures of the
-// wrong length.
+// The tier that a refusal names, counted from 1.
 #[derive(Clone, Copy, PartialEq, Eq, Debug)]
 pub struct Tier {
     pub number: u8,

@@ -10,6 +10,7 @@ use shelf::store::Shelf;
 use std::process::Abort;
 
 // A call. Figures are those of the last tiers: a kind with more tiers has 0 before.
+// No closure: a pointer to one that is generic over the kind and the shelf gets no proof.
 #[derive(Clone, Copy)]
 pub enum Call<'a> {
     Open(u16),
@@ -26,29 +27,32 @@ pub enum Call<'a> {
     Impossible,
 }
 
-// An answer. A cost is told by its last two tiers, 0 where there is only one.
+// What a call is granted. A cost is told by its last two tiers, 0 where there is only one.
 #[derive(Clone, Copy, PartialEq, Eq, Debug)]
-pub enum Told {
-    Granted,
+pub enum Grant {
+    Done,
     Shown((i64, i64), usize),
     Cheapest((i64, i64)),
-    Refused(u8, u8),
 }
 
-// A cell, with its amount told in the same way.
+// A refusal, by its number and its tier, as the rules tell their examples.
 #[derive(Clone, Copy, PartialEq, Eq, Debug)]
-pub enum Held {
-    Hard,
-    Soft((i64, i64)),
+pub struct Refused(pub u8, pub u8);
+
+// A bench's fault goes up by `?` as its number and its tier.
+impl From<Fault> for Refused {
+    fn from(fault: Fault) -> Refused {
+        Refused(fault.number(), fault.tier())
+    }
 }
 
 // A call and the answer that it must get.
 #[derive(Clone, Copy)]
-pub struct Step<'a>(pub Call<'a>, pub Told);
+pub struct Step<'a>(pub Call<'a>, pub Result<Grant, Refused>);
 
-// The codes that must stand at a place, and its cell.
+// The codes that must stand at a place, and its cell, with an amount told as a cost is.
 #[derive(Clone, Copy)]
-pub struct Place<'a>(pub &'a [u32], pub Held);
+pub struct Place<'a>(pub &'a [u32], pub Cell<(i64, i64)>);
 
 // The calls, the places from 0 on after them, and the proved cost then.
 #[derive(Clone, Copy)]
@@ -60,146 +64,107 @@ pub struct Example<'a> {
 
 // The figures of the last two tiers.
 fn figures<K: CostKind>(amount: K::Amount) -> (i64, i64) {
-    let r = K::tiers();
-    if r < 2 {
-        return (0, K::figure(amount, r));
-    }
-    (K::figure(amount, r - 1), K::figure(amount, r))
+    let last = K::tiers();
+    (K::figure(amount, last - 1), K::figure(amount, last))
 }
 
-fn granted(answer: Result<(), Fault>) -> Told {
-    match answer {
-        Ok(()) => Told::Granted,
-        Err(fault) => Told::Refused(fault.number(), fault.tier()),
-    }
+// A bench on trial, with its shelf and its ledger. A call that only reads one of them is
+// lent it as `&mut *`: there is no proof rule for `&*` in its place.
+#[derive(Drop)]
+pub struct Trial<'a, K: CostKind, S> {
+    bench: Bench<K>,
+    shelf: &'a mut S,
+    ledger: &'a mut [Cell<K::Row>],
 }
 
-fn shown<K: CostKind>(answer: Result<(K::Amount, usize), Fault>) -> Told {
-    match answer {
-        Ok(p) => Told::Shown(figures::<K>(p.0), p.1),
-        Err(fault) => Told::Refused(fault.number(), fault.tier()),
-    }
-}
-
-fn claimed<K: CostKind>(answer: Result<K::Amount, Fault>) -> Told {
-    match answer {
-        Ok(cost) => Told::Cheapest(figures::<K>(cost)),
-        Err(fault) => Told::Refused(fault.number(), fault.tier()),
-    }
-}
-
-fn told_cell<K: CostKind>(cell: Cell<K::Amount>) -> Held {
-    match cell {
-        Cell::Hard => Held::Hard,
-        Cell::Soft(amount) => Held::Soft(figures::<K>(amount)),
-    }
-}
-
-// The figures behind so many zeros.
-fn padded(last: &[i64], before: usize) -> [i64; 14] {
-    let mut all = [0i64; 14];
-    for k in 0..last.len() {
-        if before < 14 && k < 14 - before {
-            all[before + k] = last[k];
+impl<'a, K: CostKind, S: Shelf> Trial<'a, K, S> {
+    // A trial with no case yet.
+    pub fn new(shelf: &'a mut S, ledger: &'a mut [Cell<K::Row>]) -> Trial<'a, K, S> {
+        Trial {
+            bench: Bench::<K>::new(),
+            shelf,
+            ledger,
         }
     }
-    all
-}
 
-// Gives a soft clause, with zeros for the tiers before its figures.
-fn give<K: CostKind, S: Shelf>(
-    bench: &mut Bench<K>,
-    shelf: &mut S,
-    ledger: &mut [Cell<K::Row>],
-    place: usize,
-    last: &[i64],
-    clause: &[Literal],
-) -> Result<(), Fault> {
-    let r = K::tiers();
-    if r > 14 || last.len() >= r {
-        return bench.soft(shelf, ledger, place, last, clause);
-    }
-    let all = padded(last, r - last.len());
-    bench.soft(shelf, ledger, place, &all[0..r], clause)
-}
-
-// Makes one call.
-fn make<K: CostKind, S: Shelf>(
-    bench: &mut Bench<K>,
-    shelf: &mut S,
-    ledger: &mut [Cell<K::Row>],
-    call: Call<'_>,
-) -> Told {
-    match call {
-        Call::Open(n) => granted(bench.open(shelf, ledger, n)),
-        Call::Hard(place, clause) => granted(bench.hard(shelf, ledger, place, clause)),
-        Call::Soft(place, last, clause) => {
-            granted(give(bench, shelf, ledger, place, last, clause))
+    // Gives a soft clause, with zeros for the tiers before its figures.
+    fn soft(&mut self, place: usize, last: &[i64], clause: &[Literal]) -> Result<(), Fault> {
+        // 14 tiers are the most that a kind may have; an array, since the zeros come first and a
+        // part is lent, which a vector would need a loop for
+        let mut figures = [0i64; 14];
+        let tiers = K::tiers();
+        if last.len() >= tiers {
+            return self
+                .bench
+                .soft(self.shelf, self.ledger, place, last, clause);
         }
-        Call::Seal => granted(bench.seal(shelf, ledger)),
-        Call::Show(strip) => shown::<K>(bench.show(shelf, ledger, strip)),
-        Call::Split(place, v, to) => granted(bench.split(shelf, ledger, place, v, to)),
-        Call::Join(i, j) => granted(bench.join(shelf, ledger, i, j)),
-        Call::Resolve(i, j, v, to) => granted(bench.resolve(shelf, ledger, i, j, v, to)),
-        Call::Define(to, literals) => granted(bench.define(shelf, ledger, to, literals)),
-        Call::Harden(i) => granted(bench.harden(shelf, ledger, i)),
-        Call::Cheapest => claimed::<K>(bench.cheapest(shelf, ledger)),
-        Call::Impossible => granted(bench.impossible(shelf, ledger)),
+        figures[tiers - last.len()..tiers].copy_from_slice(last);
+        self.bench
+            .soft(self.shelf, self.ledger, place, &figures[..tiers], clause)
     }
-}
 
-// Whether a place holds exactly these codes.
-fn holds_codes<S: Shelf>(shelf: &S, place: usize, codes: &[u32]) -> bool {
-    if shelf.size(place) != codes.len() {
-        return false;
+    // Makes one call.
+    fn make(&mut self, call: Call<'_>) -> Result<Grant, Refused> {
+        match call {
+            Call::Open(n) => self.bench.open(self.shelf, self.ledger, n)?,
+            Call::Hard(place, clause) => self.bench.hard(self.shelf, self.ledger, place, clause)?,
+            Call::Soft(place, last, clause) => self.soft(place, last, clause)?,
+            Call::Seal => self.bench.seal(&mut *self.shelf, &mut *self.ledger)?,
+            Call::Show(strip) => {
+                let (cost, unmet) = self.bench.show(&mut *self.shelf, &mut *self.ledger, strip)?;
+                return Ok(Grant::Shown(figures::<K>(cost), unmet));
+            }
+            Call::Split(place, v, to) => self.bench.split(self.shelf, self.ledger, place, v, to)?,
+            Call::Join(i, j) => self.bench.join(self.shelf, self.ledger, i, j)?,
+            Call::Resolve(i, j, v, to) => self.bench.resolve(self.shelf, self.ledger, i, j, v, to)?,
+            Call::Define(to, literals) => self.bench.define(self.shelf, self.ledger, to, literals)?,
+            Call::Harden(place) => self.bench.harden(&mut *self.shelf, self.ledger, place)?,
+            Call::Cheapest => {
+                let cost = self.bench.cheapest(&mut *self.shelf, &mut *self.ledger)?;
+                return Ok(Grant::Cheapest(figures::<K>(cost)));
+            }
+            Call::Impossible => self.bench.impossible(&mut *self.shelf, &mut *self.ledger)?,
+        }
+        Ok(Grant::Done)
     }
-    for k in 0..codes.len() {
-        if shelf.literal(place, k).code != codes[k] {
+
+    // Whether a place holds exactly these codes.
+    fn holds_codes(&self, place: usize, codes: &[u32]) -> bool {
+        if self.shelf.size(place) != codes.len() {
             return false;
         }
-        if !shelf.holds(place, Literal { code: codes[k] }) {
-            return false;
+        codes.iter().enumerate().all(|(k, code)| {
+            let literal = Literal { code: *code };
+            self.shelf.literal(place, k) == literal && self.shelf.holds(place, literal)
+        })
+    }
+
+    // The cell of a place, with an amount told as a cost is.
+    fn told_cell(&self, place: usize) -> Cell<(i64, i64)> {
+        match read_cell::<K>(self.ledger, place) {
+            Cell::Hard => Cell::Hard,
+            Cell::Soft(amount) => Cell::Soft(figures::<K>(amount)),
         }
     }
-    true
-}
 
-// Compares what stands at each place.
-fn compare_places<K: CostKind, S: Shelf>(
-    rt: &impl Abort,
-    shelf: &S,
-    ledger: &[Cell<K::Row>],
-    places: &[Place<'_>],
-) {
-    for (p, place) in places.iter().enumerate() {
-        assert!(rt; holds_codes(shelf, p, place.0));
-        assert_eq!(rt; told_cell::<K>(read_cell::<K>(ledger, p)), place.1);
+    // A new bench gets every call of an example, and each answer and every place is
+    // compared.
+    pub fn run(&mut self, rt: &impl Abort, example: &Example<'_>) {
+        self.bench = Bench::<K>::new();
+        for (k, Step(call, answer)) in example.steps.iter().enumerate() {
+            assert_eq!(rt; self.make(*call), *answer, "at step {k}");
+        }
+        for (p, Place(codes, cell)) in example.places.iter().enumerate() {
+            assert!(rt; self.holds_codes(p, codes), "the codes at {p}");
+            assert_eq!(rt; self.told_cell(p), *cell, "the cell at {p}");
+        }
+        assert_eq!(rt; figures::<K>(self.bench.proved()), example.proved);
     }
-}
 
-// A new bench gets every call, and each answer and every place is compared.
-pub fn try_example<K: CostKind, S: Shelf>(
-    rt: &impl Abort,
-    shelf: &mut S,
-    ledger: &mut [Cell<K::Row>],
-    example: &Example<'_>,
-) {
-    let mut bench = Bench::<K>::new();
-    for step in example.steps {
-        assert_eq!(rt; make(&mut bench, shelf, ledger, step.0), step.1);
-    }
-    compare_places::<K, S>(rt, shelf, ledger, example.places);
-    assert_eq!(rt; figures::<K>(bench.proved()), example.proved);
-}
-
-// All examples of a list, one after another on one pile.
-pub fn try_all<K: CostKind, S: Shelf>(
-    rt: &impl Abort,
-    shelf: &mut S,
-    ledger: &mut [Cell<K::Row>],
-    examples: &[Example<'_>],
-) {
-    for example in examples {
-        try_example::<K, S>(rt, shelf, ledger, example);
+    // All examples of a list, one after another on one pile.
+    pub fn run_all(&mut self, rt: &impl Abort, examples: &[Example<'_>]) {
+        for example in examples {
+            self.run(rt, example);
+        }
     }
 }

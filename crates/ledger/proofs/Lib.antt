@@ -1,1 +1,2 @@
 pub mod Billing
+pub mod Folding

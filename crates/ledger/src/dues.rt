@@ -14,19 +14,14 @@ use crate::weighed::Weighed;
 use cost::kind::CostKind;
 use cost::tier::Tier;
 
-// The cell of two equal clauses: hard if either is, else with the sum of both.
+// The cell of two equal clauses: hard if either is, else with the sum of both. Not one function
+// with `less` over an operation: a hard cell makes this one hard, and leaves that one as it was.
 pub fn joined<K: CostKind>(a: Cell<K::Amount>, b: Cell<K::Amount>) -> Result<Cell<K::Amount>, Tier>
     ensures { cell_told K.kind.figures result ≡ told_by (reach_reply K.kind.scale (sum_news (cell_of K.kind.figures a) (cell_of K.kind.figures b))) (joined_of (cell_of K.kind.figures a) (cell_of K.kind.figures b)) }
 {
-    match a {
-        Cell::Hard => Ok(Cell::Hard),
-        Cell::Soft(x) => match b {
-            Cell::Hard => Ok(Cell::Hard),
-            Cell::Soft(y) => match K::sum(x, y) {
-                Ok(z) => Ok(Cell::Soft(z)),
-                Err(t) => Err(t),
-            },
-        },
+    match (a, b) {
+        (Cell::Soft(x), Cell::Soft(y)) => Ok(Cell::Soft(K::sum(x, y)?)),
+        _ => Ok(Cell::Hard),
     }
 }
 
@@ -34,15 +29,9 @@ pub fn joined<K: CostKind>(a: Cell<K::Amount>, b: Cell<K::Amount>) -> Result<Cel
 fn less<K: CostKind>(a: Cell<K::Amount>, m: Cell<K::Amount>) -> Result<Cell<K::Amount>, Tier>
     ensures { cell_told K.kind.figures result ≡ told_by (reach_reply K.kind.scale (remainders (cell_of K.kind.figures a) (cell_of K.kind.figures m))) (less_of (cell_of K.kind.figures a) (cell_of K.kind.figures m)) }
 {
-    match a {
-        Cell::Hard => Ok(Cell::Hard),
-        Cell::Soft(x) => match m {
-            Cell::Hard => Ok(Cell::Soft(x)),
-            Cell::Soft(y) => match K::difference(x, y) {
-                Ok(z) => Ok(Cell::Soft(z)),
-                Err(t) => Err(t),
-            },
-        },
+    match (a, m) {
+        (Cell::Soft(x), Cell::Soft(y)) => Ok(Cell::Soft(K::difference(x, y)?)),
+        _ => Ok(a),
     }
 }
 
@@ -54,12 +43,9 @@ pub fn paid<K: CostKind>(
 ) -> Result<K::Amount, Tier>
     ensures { meant K.kind.figures result ≡ told_by (reach_reply K.kind.scale (paid_news empty (cell_of K.kind.figures m) (K.kind.figures proved))) (paid_of empty (cell_of K.kind.figures m) (K.kind.figures proved)) }
 {
-    if !empty {
-        return Ok(proved);
-    }
     match m {
-        Cell::Hard => Ok(proved),
-        Cell::Soft(a) => K::sum(proved, a),
+        Cell::Soft(a) if empty => K::sum(proved, a),
+        _ => Ok(proved),
     }
 }
 

@@ -1,35 +1,14 @@
 -- Single bits of a mask: what halving leaves of them, what `&` and `|` make of
 -- them, and that they tell two masks apart.
-use Rattle.std.proofs.Common.{◌≡◌, ℕ, zero, suc, ◌+◌, ◌-◌, ◌*◌, ◌/◌, ◌%◌, ◌^◌, ◌<◌, ◌≤◌, min, max, false, ◌||◌, eqb, sym, ap, ◌∙◌, pow-suc, arith}
+use Rattle.std.proofs.Common.{◌≡◌, ℕ, zero, suc, ◌-◌, ◌*◌, ◌/◌, ◌%◌, ◌^◌, ◌<◌, ◌≤◌, max, false, ◌||◌, eqb, sym, ap, ◌∙◌, pow-suc, arith}
 use native.Mathlib.Nat.{zero-max}
 use lib.Bits.{bit_and, bit_or, and_self, and_step, or_step, or_zero_r, shifted_half, shifted_even}
-use Rattle.std.proofs.lemmas.Nat.{and_shr, or_shr, shr-shr}
+use Rattle.std.proofs.lemmas.Nat.Bits.{bit_at_and, bit_at_or}
 use Rattle.std.proofs.lemmas.Bool.{eq-eqb, eqb-false}
 use Rattle.masks.specs.Digits.{bit}
 
-pub bit_first : (m : ℕ) → bit 0 m ≡ m % 2
-bit_first m = omega arith
-
-pub bit_half : (k m : ℕ) → bit (suc k) m ≡ bit k (m / 2)
-bit_half k m =
-    let e : suc k ≡ 1 + k = omega arith in
-    ap (λ (j : ℕ). m / 2 ^ j % 2) e ∙ ap (λ (x : ℕ). x % 2) (sym (shr-shr m 1 k))
-
-pub bit_bit_or : (k a b : ℕ) → bit k (bit_or a b) ≡ max (bit k a) (bit k b)
-bit_bit_or k a b = let s = or_step (a / 2 ^ k) (b / 2 ^ k) in ap (λ (x : ℕ). x % 2) (or_shr a b k ∙ s) ∙ omega arith
-
-pub bit_bit_and : (k a b : ℕ) → bit k (bit_and a b) ≡ min (bit k a) (bit k b)
-bit_bit_and k a b = let s = and_step (a / 2 ^ k) (b / 2 ^ k) in ap (λ (x : ℕ). x % 2) (and_shr a b k ∙ s) ∙ omega arith
-
 pub half_below : (n m : ℕ) → m < 2 ^ suc n → m / 2 < 2 ^ n
 half_below n m h = omega (arith, pow-suc 2 n)
-
-pub same_bits : (n a b : ℕ) → a < 2 ^ n → b < 2 ^ n → ((k : ℕ) → k < n → bit k a ≡ bit k b) → a ≡ b
-same_bits zero a b la lb same = omega arith
-same_bits (suc n) a b la lb same =
-    let first : a % 2 ≡ b % 2 = sym (bit_first a) ∙ same 0 (omega arith) ∙ bit_first b in
-    let rest : a / 2 ≡ b / 2 = same_bits n (a / 2) (b / 2) (half_below n a la) (half_below n b lb) (λ k h. sym (bit_half k a) ∙ same (suc k) (omega arith) ∙ bit_half k b) in
-    omega arith
 
 -- the lowest bit set where d is 1
 pub or_first : (m d : ℕ) → d ≤ 1 → (bit_or m d % 2 ≡ max (m % 2) d) × (bit_or m d / 2 ≡ m / 2)
@@ -70,13 +49,13 @@ either_one (suc x) y hx hy =
 
 pub neither_bit : (k a b : ℕ) → eqb (bit k (bit_or a b)) 1 ≡ false → (bit k a ≡ 0) × (bit k b ≡ 0)
 neither_bit k a b h =
-    let e = bit_bit_or k a b in
+    let e = bit_at_or a b k in
     let ne = eqb-false (bit k (bit_or a b)) 1 h in
     (omega arith, omega arith)
 
 pub apart_bit : (k a b : ℕ) → bit_and a b ≡ 0 → bit k b ≡ 1 → bit k a ≡ 0
 apart_bit k a b apart on =
-    let e = bit_bit_and k a b in
+    let e = bit_at_and a b k in
     let z : bit k (bit_and a b) ≡ bit k 0 = ap (bit k) apart in
     let o : bit k 0 ≡ 0 = omega arith in
     omega arith

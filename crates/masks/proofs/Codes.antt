@@ -1,12 +1,14 @@
 -- The codes of two masks: how many they are, and which stand among them. Each
 -- fact goes by the lowest bits and then by the halves of the masks.
-use Rattle.std.proofs.Common.{◌≡◌, ℕ, zero, suc, ◌+◌, ◌*◌, ◌/◌, ◌%◌, ◌^◌, ◌<◌, ◌≤◌, Bool, true, false, ◌||◌, eqb, List, [], ◌∷◌, length, sym, refl, ap, ◌∙◌, ap₂, zero-add, arith}
+use Rattle.std.proofs.Common.{◌≡◌, ℕ, zero, suc, ◌+◌, ◌-◌, ◌*◌, ◌/◌, ◌%◌, ◌^◌, ◌<◌, ◌≤◌, Bool, true, false, ◌||◌, eqb, List, [], ◌∷◌, length, sym, refl, ap, ◌∙◌, ap₂, zero-add, arith}
 use lib.Bits.{bit_or}
 use lib.Count.{ones, ones_step}
+use Rattle.std.proofs.lemmas.Nat.Bits.{bit_at-suc, bit_at_lowest, bit_at_or}
 use Rattle.std.proofs.lemmas.Bool.{eq-eqb, ne_eqb, or_left}
 use Rattle.shelf.specs.Literals.{among, stands}
 use Rattle.masks.specs.Digits.{bit, codes, spelled}
-use Rattle.masks.proofs.Bits.{bit_first, bit_half, bit_bit_or, either_one, half_below}
+use Rattle.masks.specs.Masks.{codes_of}
+use Rattle.masks.proofs.Bits.{either_one, half_below}
 
 -- one variable's part and the rest, in other terms for the digits and the halves
 pub codes_by : (n v a b d e x y : ℕ) → a % 2 ≡ d → b % 2 ≡ e → a / 2 ≡ x → b / 2 ≡ y → codes (suc n) v a b ≡ spelled d (2 * v) (spelled e (2 * v + 1) (codes n (v + 1) x y))
@@ -75,17 +77,17 @@ codes_among zero v k s a b x h le is = absurd (omega arith)
 codes_among (suc n) v zero zero a b x h le is =
     spelled_here (a % 2) (2 * v) x _ (omega arith) (omega arith)
     (spelled_other (b % 2) (2 * v + 1) x _ (λ e. omega arith) ∙ codes_outside n (v + 1) (a / 2) (b / 2) x (λ l g. omega arith))
-    ∙ ap (λ (d : ℕ). eqb d 1) (sym (bit_first a))
+    ∙ ap (λ (d : ℕ). eqb d 1) (sym (bit_at_lowest a))
 codes_among (suc n) v zero (suc s) a b x h le is =
     spelled_other (a % 2) (2 * v) x _ (λ e. omega arith)
     ∙ spelled_here (b % 2) (2 * v + 1) x _ (omega arith) (omega arith) (codes_outside n (v + 1) (a / 2) (b / 2) x (λ l g. omega arith))
-    ∙ ap (λ (d : ℕ). eqb d 1) (sym (bit_first b))
+    ∙ ap (λ (d : ℕ). eqb d 1) (sym (bit_at_lowest b))
 codes_among (suc n) v (suc k) s a b x h le is =
     spelled_other (a % 2) (2 * v) x _ (λ e. omega arith)
     ∙ spelled_other (b % 2) (2 * v + 1) x _ (λ e. omega arith)
     ∙ codes_among n (v + 1) k s (a / 2) (b / 2) x (omega arith) le (omega arith)
     ∙ ap (λ (m : ℕ). eqb (bit k m) 1) (of_sign_half s a b)
-    ∙ ap (λ (d : ℕ). eqb d 1) (sym (bit_half k (of_sign s a b)))
+    ∙ ap (λ (d : ℕ). eqb d 1) (sym (bit_at-suc (of_sign s a b) k))
 
 or_regroup : (p q s t : Bool) → ((p || q) || (s || t)) ≡ ((p || s) || (q || t))
 or_regroup true q s t = refl
@@ -109,4 +111,18 @@ codes_stand n v k a b u h is =
     stands_among u (codes n v a b)
     ∙ ap₂ (λ (p q : Bool). p || q) (codes_among n v k 0 a b (2 * u) h (omega arith) (omega arith)) (codes_among n v k 1 a b (2 * u + 1) h (omega arith) (omega arith))
     ∙ either_one (bit k a) (bit k b) (omega arith) (omega arith)
-    ∙ ap (λ (d : ℕ). eqb d 1) (sym (bit_bit_or k a b))
+    ∙ ap (λ (d : ℕ). eqb d 1) (sym (bit_at_or a b k))
+
+-- ---- what a bit tells of the codes of two masks of 64 bits
+
+pub size_ones : (a b : ℕ) → a < 2 ^ 64 → b < 2 ^ 64 → length (codes_of a b) ≡ ones a + ones b
+size_ones a b la lb = codes_length 64 1 a b la lb
+
+pub stands_bit : (u a b : ℕ) → 1 ≤ u → u ≤ 64 → stands u (codes_of a b) ≡ eqb (bit (u - 1) (bit_or a b)) 1
+stands_bit u a b low high = codes_stand 64 1 (u - 1) a b u (omega arith) (omega arith)
+
+pub among_bit : (x a b : ℕ) → 1 ≤ x / 2 → x / 2 ≤ 64 → among x (codes_of a b) ≡ eqb (bit (x / 2 - 1) (of_sign (x % 2) a b)) 1
+among_bit x a b low high = codes_among 64 1 (x / 2 - 1) (x % 2) a b x (omega arith) (omega arith) (omega arith)
+
+pub among_none : (x a b : ℕ) → (1 ≤ x / 2 → x / 2 ≤ 64 → ⊥) → among x (codes_of a b) ≡ false
+among_none x a b out = codes_outside 64 1 a b x (λ low high. out low (omega arith))

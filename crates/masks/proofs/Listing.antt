@@ -5,10 +5,11 @@ use native.Mathlib.Nat.{max-zero, zero-max}
 use lib.Bits.{bit_and, bit_or, or_step}
 use lib.Count.{count_trailing_zeros, under}
 use Rattle.std.proofs.lemmas.List.{drop-drop, drop-map, get_or-drop}
+use Rattle.std.proofs.lemmas.Nat.Bits.{bit_at-suc, bit_at_lowest}
 use Rattle.std.proofs.lemmas.Bool.{cases_eq, cond-false, cond-true, eq-eqb, ne_eqb}
 use Rattle.masks.specs.Digits.{bit, codes, spelled, variables}
 use Rattle.masks.specs.Masks.{codes_of}
-use Rattle.masks.proofs.Bits.{apart_bit, bit_first, bit_half, half_below, lowest_even, lowest_odd}
+use Rattle.masks.proofs.Bits.{apart_bit, half_below, lowest_even, lowest_odd}
 
 -- one variable and the rest, in other terms for the digit and the half
 variables_by : (n v m d x : ℕ) → m % 2 ≡ d → m / 2 ≡ x → variables (suc n) v m ≡ spelled d v (variables n (v + 1) x)
@@ -81,11 +82,11 @@ codes_signed (suc n) v a b f on off =
     let here : v + 0 ≡ v = add-zero v in
     let next : (k : ℕ) → v + suc k ≡ (v + 1) + k = λ k. omega arith in
     spelled_signed (a % 2) (b % 2) v f (codes n (v + 1) (a / 2) (b / 2)) (variables n (v + 1) (bit_or (a / 2) (b / 2))) (omega arith) (omega arith)
-    (λ e. ap f (sym here) ∙ on 0 (bit_first a ∙ e) ∙ ap (λ (u : ℕ). 2 * u) here)
-    (λ e. ap f (sym here) ∙ off 0 (bit_first b ∙ e) ∙ ap (λ (u : ℕ). 2 * u + 1) here)
+    (λ e. ap f (sym here) ∙ on 0 (bit_at_lowest a ∙ e) ∙ ap (λ (u : ℕ). 2 * u) here)
+    (λ e. ap f (sym here) ∙ off 0 (bit_at_lowest b ∙ e) ∙ ap (λ (u : ℕ). 2 * u + 1) here)
     (codes_signed n (v + 1) (a / 2) (b / 2) f
-    (λ k e. ap f (sym (next k)) ∙ on (suc k) (bit_half k a ∙ e) ∙ ap (λ (u : ℕ). 2 * u) (next k))
-    (λ k e. ap f (sym (next k)) ∙ off (suc k) (bit_half k b ∙ e) ∙ ap (λ (u : ℕ). 2 * u + 1) (next k)))
+    (λ k e. ap f (sym (next k)) ∙ on (suc k) (bit_at-suc a k ∙ e) ∙ ap (λ (u : ℕ). 2 * u) (next k))
+    (λ k e. ap f (sym (next k)) ∙ off (suc k) (bit_at-suc b k ∙ e) ∙ ap (λ (u : ℕ). 2 * u + 1) (next k)))
     ∙ ap (map f) (sym (variables_by n v (bit_or a b) (max (a % 2) (b % 2)) (bit_or (a / 2) (b / 2)) (omega arith) (omega arith)))
 
 -- the code of the variable u: of its literal where its bit is set in a, else of the

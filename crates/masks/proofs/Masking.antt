@@ -1,9 +1,8 @@
 -- The words of a shelf, and the masks of one place rewritten.
-use Rattle.std.proofs.Common.{◌≡◌, ℕ, ◌<◌, ◌≤◌, List, [], length, get_or, set, sym, ap, ◌∙◌, subst, ap₂, inl, inr, arith}
-use Rattle.std.proofs.lemmas.List.{ext_get_or, get_or-set_other, get_or-set_same, length-set}
+use Rattle.std.proofs.Common.{◌≡◌, ℕ, ◌≤◌, List, length, set, sym, ap, ◌∙◌, subst, ap₂, inl, inr, arith}
 use Rattle.std.proofs.lemmas.Bool.{cases_eq}
 use Rattle.masks.specs.Masks.{Masks, Paired, codes_at, codes_of, held_in, mask_at}
-use Rattle.masks.specs.Soundness.{held_at, held_length}
+use Rattle.shelf.proofs.Holding.{changed_at}
 
 pub empty_pair : Paired 0 0
 empty_pair = record { literals_fit = omega arith; opposites_fit = omega arith; apart = omega arith }
@@ -12,26 +11,11 @@ pub same_pair : (a b x y : ℕ) → a ≡ x → b ≡ y → Paired x y → Paire
 same_pair a b x y ea eb pair = subst (λ (m : ℕ). Paired m b) (sym ea) (subst (Paired x) (sym eb) pair)
 
 -- the words `after` have the masks a and b at p, and are else as they were
-module _ (P p a b : ℕ) (ws after : List ℕ) (place : p < P) (literals : mask_at after p 0 ≡ a) (opposites : mask_at after p 1 ≡ b) (others : (q s : ℕ) → s ≤ 1 → (q ≡ p → ⊥) → mask_at after q s ≡ mask_at ws q s) where
+module _ (P p a b : ℕ) (ws after : List ℕ) (literals : mask_at after p 0 ≡ a) (opposites : mask_at after p 1 ≡ b) (others : (q s : ℕ) → s ≤ 1 → (q ≡ p → ⊥) → mask_at after q s ≡ mask_at ws q s) where
   pub held_changed : held_in P after ≡ set (held_in P ws) p (codes_of a b)
   held_changed =
-      let held = held_in P ws in
-      let l = held_length P ws in
-      let m = held_length P after in
-      ext_get_or [] (held_in P after) (set held p (codes_of a b)) (m ∙ sym (length-set held p (codes_of a b) ∙ l))
-      (λ q h.
-      held_at P after q (omega arith)
-      ∙ elim (cases_eq q p) as (λ _. codes_at after q ≡ get_or (set held p (codes_of a b)) q []) [
-        | inl e ↦
-            ap (codes_at after) e
-            ∙ ap₂ codes_of literals opposites
-            ∙ sym (get_or-set_same held p (codes_of a b) [] (omega arith))
-            ∙ ap (λ (x : ℕ). get_or (set held p (codes_of a b)) x []) (sym e)
-        | inr ne ↦
-            ap₂ codes_of (others q 0 (omega arith) ne) (others q 1 (omega arith) ne)
-            ∙ sym (held_at P ws q (omega arith))
-            ∙ sym (get_or-set_other held p q (codes_of a b) [] ne)
-      ])
+      changed_at (codes_at ws) (codes_at after) P p (codes_of a b) (ap₂ codes_of literals opposites)
+      (λ q ne. ap₂ codes_of (others q 0 (omega arith) ne) (others q 1 (omega arith) ne))
 
   pub masks_changed : Masks P ws → length after ≡ length ws → Paired a b → Masks P after
   masks_changed m same here =

@@ -4,12 +4,13 @@
 use Rattle.std.proofs.Common.{◌≡◌, ℕ, zero, suc, ◌+◌, ◌*◌, ◌/◌, ◌%◌, ◌^◌, ◌<◌, ◌≤◌, ltb, List, [], ◌∷◌, length, sym, refl, ap, ◌∙◌, ap₂, one-mul, zero-mul, mul-one, arith}
 use lib.Bits.{bit_and, bit_or, and_step}
 use Rattle.std.proofs.lemmas.Nat.{or_lt, pow_below}
+use Rattle.std.proofs.lemmas.Nat.Bits.{bit_at-suc, bit_at_lowest}
 use Rattle.std.proofs.lemmas.Bool.{cond_both, cond-false, cond-true, le-ltb, lt-ltb}
 use Rattle.shelf.specs.Literals.{Rising, put}
 use Rattle.masks.specs.Digits.{bit, codes, spelled}
 use Rattle.masks.specs.Masks.{Paired, codes_of}
 use Rattle.masks.specs.Soundness.{apart_halves, codes_rise, pair_clause}
-use Rattle.masks.proofs.Bits.{bit_first, bit_half, or_first, or_later}
+use Rattle.masks.proofs.Bits.{or_first, or_later}
 use Rattle.masks.proofs.Codes.{codes_by}
 
 put_front : (V b c : ℕ) (cs : List ℕ) → Rising V b cs → c / 2 ≤ b → put c cs ≡ c ∷ cs
@@ -40,7 +41,7 @@ or_first_set : (m d : ℕ) → d ≤ 1 → bit 0 m ≡ 0 → (bit_or m (d * 1) %
 or_first_set m d le off =
     let f = or_first m d le in
     let e : bit_or m (d * 1) ≡ bit_or m d = ap (bit_or m) (mul-one d) in
-    let z = bit_first m in
+    let z = bit_at_lowest m in
     (omega arith, omega arith)
 
 pub codes_put : (n v k d e a b x : ℕ) → k < n → d + e ≡ 1 → bit_and a b ≡ 0 → bit k a ≡ 0 → bit k b ≡ 0 → 2 * (v + k) + e ≡ x → codes n v (bit_or a (d * 2 ^ k)) (bit_or b (e * 2 ^ k)) ≡ put x (codes n v a b)
@@ -49,8 +50,8 @@ codes_put (suc n) v zero d e a b x h one apart offa offb is =
     let rest = codes n (v + 1) (a / 2) (b / 2) in
     let fa = or_first_set a d (omega arith) offa in
     let fb = or_first_set b e (omega arith) offb in
-    let za = bit_first a in
-    let zb = bit_first b in
+    let za = bit_at_lowest a in
+    let zb = bit_at_lowest b in
     let rises : Rising (v + n) v rest = codes_rise (v + n) v n (v + 1) (a / 2) (b / 2) (apart_halves a b apart).0 (omega arith) (omega arith) in
     codes_by n v (bit_or a (d * 1)) (bit_or b (e * 1)) d e (a / 2) (b / 2) fa.0 fb.0 fa.1 fb.1
     ∙ spelled_one d e v x rest one (omega arith)
@@ -62,7 +63,7 @@ codes_put (suc n) v (suc k) d e a b x h one apart offa offb is =
     let rest = codes n (v + 1) (a / 2) (b / 2) in
     codes_by n v (bit_or a (d * 2 ^ suc k)) (bit_or b (e * 2 ^ suc k)) (a % 2) (b % 2) (bit_or (a / 2) (d * 2 ^ k)) (bit_or (b / 2) (e * 2 ^ k)) la.0 lb.0 la.1 lb.1
     ∙ ap (λ (l : List ℕ). spelled (a % 2) (2 * v) (spelled (b % 2) (2 * v + 1) l))
-    (codes_put n (v + 1) k d e (a / 2) (b / 2) x (omega arith) one (apart_halves a b apart).0 (sym (bit_half k a) ∙ offa) (sym (bit_half k b) ∙ offb) (omega arith))
+    (codes_put n (v + 1) k d e (a / 2) (b / 2) x (omega arith) one (apart_halves a b apart).0 (sym (bit_at-suc a k) ∙ offa) (sym (bit_at-suc b k) ∙ offb) (omega arith))
     ∙ ap (spelled (a % 2) (2 * v)) (sym (spelled_put (b % 2) (2 * v + 1) x rest (omega arith)))
     ∙ sym (spelled_put (a % 2) (2 * v) x (spelled (b % 2) (2 * v + 1) rest) (omega arith))
     ∙ ap (put x) (sym (codes_by n v a b (a % 2) (b % 2) (a / 2) (b / 2) refl refl refl refl))
@@ -78,7 +79,7 @@ apart_put (suc k) d e a b one apart offa offb =
     let la = or_later a d k in
     let lb = or_later b e k in
     let s = and_step (bit_or a (d * 2 ^ suc k)) (bit_or b (e * 2 ^ suc k)) in
-    let i = apart_put k d e (a / 2) (b / 2) one (apart_halves a b apart).0 (sym (bit_half k a) ∙ offa) (sym (bit_half k b) ∙ offb) in
+    let i = apart_put k d e (a / 2) (b / 2) one (apart_halves a b apart).0 (sym (bit_at-suc a k) ∙ offa) (sym (bit_at-suc b k) ∙ offb) in
     let h : bit_and (bit_or a (d * 2 ^ suc k) / 2) (bit_or b (e * 2 ^ suc k) / 2) ≡ 0 = ap₂ bit_and la.1 lb.1 ∙ i in
     let m = (apart_halves a b apart).1 in
     omega arith

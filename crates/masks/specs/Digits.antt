@@ -7,10 +7,11 @@
 --                        whether its opposite does, the next digits the same of
 --                        v + 1, and so on
 --   variables n v m      the variables from v on whose digits are set in m
-use Rattle.std.specs.Prelude.{ℕ, zero, suc, ◌+◌, ◌*◌, ◌/◌, ◌%◌, ◌^◌, List, [], ◌∷◌}
+use Rattle.std.specs.Prelude.{ℕ, zero, suc, ◌+◌, ◌*◌, ◌/◌, ◌%◌, List, [], ◌∷◌}
+use Rattle.std.specs.Int.{bit_at}
 
 abbrev pub bit : ℕ → ℕ → ℕ
-bit k m = m / 2 ^ k % 2
+bit k m = bit_at m k
 
 abbrev pub spelled : ℕ → ℕ → List ℕ → List ℕ
 spelled zero c cs = cs

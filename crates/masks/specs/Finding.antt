@@ -1,23 +1,12 @@
 -- What the shelf's own functions learn of the words, one of the other.
 --
---   Starts P ws p a      the masks of the place p are the word a and the next
---   Lacks P ws p         the place p is not there
 --   Shows P ws p a b     the clause at the place p is that of the masks a and b; past
 --                        the last place it is that of two that are 0
 --   Slot P ws p c i      the place p is there, the code c is of a variable from 1 to
 --                        64, and its bit is in the word i
 --   Blank ws p           the masks of the place p are 0
-use Rattle.std.specs.Prelude.{◌≡◌, ℕ, ◌+◌, ◌*◌, ◌/◌, ◌%◌, ◌<◌, ◌≤◌, List, [], length, slice_index_or, slice_set}
+use Rattle.std.specs.Prelude.{◌≡◌, ℕ, ◌+◌, ◌*◌, ◌/◌, ◌%◌, ◌<◌, ◌≤◌, List, [], length, slice_index_or}
 use Rattle.masks.specs.Masks.{Paired, codes_of, held_in, mask_at}
-
-pub record Starts (P : ℕ) (ws : List ℕ) (p a : ℕ) : Type 0 where
-  pub place : p < P
-  pub at : a ≡ 2 * p
-  pub room : a + 2 ≤ length ws
-
-pub record Lacks (P : ℕ) (ws : List ℕ) (p : ℕ) : Type 0 where
-  pub place : P ≤ p
-  pub free : slice_set (held_in P ws) p [] ≡ held_in P ws
 
 pub record Shows (P : ℕ) (ws : List ℕ) (p a b : ℕ) : Type 0 where
   pub pair : Paired a b

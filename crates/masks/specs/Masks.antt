@@ -12,8 +12,8 @@
 --   Masks P ws           what the words keep: room for P places, at most 65,535,
 --                        and a pair at each
 --   held_in, masks_view  the clauses at the places, and what the words mean
-use Rattle.std.specs.Prelude.{◌≡◌, ℕ, ◌+◌, ◌*◌, ◌^◌, ◌<◌, ◌≤◌, List, [], map, length, bit_and, slice_index}
-use Rattle.std.specs.List.{range_with_len}
+use Rattle.std.specs.Prelude.{◌≡◌, ℕ, ◌+◌, ◌*◌, ◌^◌, ◌<◌, ◌≤◌, List, [], length, bit_and, slice_index}
+use Rattle.shelf.specs.Holding.{held_by}
 use Rattle.shelf.specs.View.{View}
 use Rattle.masks.specs.Digits.{codes}
 
@@ -39,8 +39,8 @@ pub record Masks (P : ℕ) (ws : List ℕ) : Type 0 where
   pub room : used P ≤ length ws
   pub each : (p : ℕ) → p < P → Paired (mask_at ws p 0) (mask_at ws p 1)
 
-unfoldable pub held_in : ℕ → List ℕ → List (List ℕ)
-held_in P ws = map (codes_at ws) (range_with_len 0 P)
+abbrev pub held_in : ℕ → List ℕ → List (List ℕ)
+held_in P ws = held_by (codes_at ws) P
 
 abbrev pub masks_view : ℕ → List ℕ → View
 masks_view P ws = record { places = P; highest = 64; longest = 64; held = held_in P ws; remainder = [] }

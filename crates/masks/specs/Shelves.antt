@@ -11,8 +11,10 @@
 use Rattle.std.specs.Prelude.{◌≡◌, ℕ, List, length, take, drop, replicate}
 use Rattle.masks.specs.declared.MaskShelf.{MaskShelf}
 use Rattle.masks.specs.declared.pair.Pair.{Pair}
+use Rattle.shelf.specs.Memory.{Starts}
+use Rattle.shelf.specs.Room.{Lacks}
 use Rattle.shelf.specs.View.{View}
-use Rattle.masks.specs.Finding.{Lacks, Shows, Slot, Starts}
+use Rattle.masks.specs.Finding.{Shows, Slot}
 use Rattle.masks.specs.Made.{made_view}
 use Rattle.masks.specs.Masks.{Masks, masks_view, used}
 
@@ -35,10 +37,10 @@ pub record Fresh (s : MaskShelf) (ws : List ℕ) : Type 0 where
   pub spare_kept : spare s ≡ drop (used s.places) ws
 
 abbrev pub StartsAt : MaskShelf → ℕ → ℕ → Type 0
-StartsAt s p at = Starts s.places (words_of s) p at
+StartsAt s p at = Starts s.places 2 (length (words_of s)) p at
 
 abbrev pub Misses : MaskShelf → ℕ → Type 0
-Misses s p = Lacks s.places (words_of s) p
+Misses s p = Lacks (meaning s) p
 
 abbrev pub Reads : MaskShelf → ℕ → Pair → Type 0
 Reads s p r = Shows s.places (words_of s) p r.literals r.opposites

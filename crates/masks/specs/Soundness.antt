@@ -4,19 +4,15 @@
 --   spelled_rises  a code spelled before a rising list
 --   codes_rise     the codes of two masks with no bit in common rise
 --   rising_short   a rising list has no more codes than there are variables
---   held_length    there are as many clauses as places
---   held_at        the clause at a place is its codes
---   held_past      past the last place there is none
 --   sound_masks    all that `Sound` asks
-use Rattle.std.specs.Prelude.{◌≡◌, ℕ, zero, suc, ◌+◌, ◌-◌, ◌*◌, ◌/◌, ◌%◌, ◌<◌, ◌≤◌, min, List, [], ◌∷◌, length, bit_and, slice_index_or}
-use Rattle.std.proofs.Common.{sym, subst, zero-add, arith}
+use Rattle.std.specs.Prelude.{◌≡◌, ℕ, zero, suc, ◌+◌, ◌-◌, ◌*◌, ◌/◌, ◌%◌, ◌<◌, ◌≤◌, min, List, [], ◌∷◌, length, bit_and}
+use Rattle.std.proofs.Common.{sym, subst, arith}
 use Rattle.std.specs.Int.Bits.{and_step}
-use Rattle.std.proofs.lemmas.List.FromFn.{length-map-range_with_len, get_or-map-range_with_len}
-use Rattle.std.proofs.lemmas.List.{get_or_past}
+use Rattle.shelf.specs.Holding.{held_at, held_length}
 use Rattle.shelf.specs.Literals.{Rising}
 use Rattle.shelf.specs.View.{Clause, Sound}
 use Rattle.masks.specs.Digits.{codes, spelled}
-use Rattle.masks.specs.Masks.{Masks, Paired, codes_at, codes_of, held_in, masks_view}
+use Rattle.masks.specs.Masks.{Masks, Paired, codes_at, codes_of, masks_view}
 
 pub apart_halves : (a b : ℕ) → bit_and a b ≡ 0 → (bit_and (a / 2) (b / 2) ≡ 0) × (min (a % 2) (b % 2) ≡ 0)
 apart_halves a b e = let s = and_step a b in (omega arith, omega arith)
@@ -48,26 +44,14 @@ pair_clause a b p =
     let r : Rising 64 0 (codes_of a b) = codes_rise 64 0 64 1 a b p.apart (omega arith) (omega arith) in
     record { rises = r; short = rising_short 64 0 (codes_of a b) r }
 
-module _ (P : ℕ) (ws : List ℕ) where
-  pub held_length : length (held_in P ws) ≡ P
-  unfolding held_in
-  held_length = length-map-range_with_len (codes_at ws) 0 P
-
-  pub held_at : (p : ℕ) → p < P → slice_index_or (held_in P ws) p [] ≡ codes_at ws p
-  unfolding held_in
-  held_at p h = get_or-map-range_with_len (codes_at ws) 0 P p p [] h (zero-add p)
-
-  pub held_past : (p : ℕ) → P ≤ p → slice_index_or (held_in P ws) p [] ≡ []
-  held_past p h = let e = held_length in get_or_past (held_in P ws) p [] (omega arith)
-
 pub sound_masks : (P : ℕ) (ws : List ℕ) → Masks P ws → Sound (masks_view P ws)
 sound_masks P ws m =
     record {
-      count = held_length P ws;
+      count = held_length (codes_at ws) P;
       places_few = m.places_few;
       highest_low = omega arith;
       highest_high = omega arith;
       longest_low = omega arith;
       longest_high = omega arith;
-      clauses = λ p h. subst (Clause 64 64) (sym (held_at P ws p h)) (pair_clause _ _ (m.each p h));
+      clauses = λ p h. subst (Clause 64 64) (sym (held_at (codes_at ws) P p h)) (pair_clause _ _ (m.each p h));
     }

@@ -2,11 +2,12 @@
 // first say which literals stand there, those of the second which opposites do.
 // So a clause has variables up to 64, and a question is answered by operations on
 // whole words. Every call asks all its questions before it writes, and tests a
-// place's words before it reads them.
+// place's words before it reads them. `wipe` reads as the row shelf's, and `start` and `clear`
+// nearly so: each is a few lines, and its clauses speak of this shelf's own words.
 
 #![tactic(auto)]
 
-ghost use Rattle.std.specs.Prelude.{◌≡◌, length, IfOk, Some, None, Ok, Err, OnOk};
+ghost use Rattle.std.specs.Prelude.{◌≡◌, length, IfOk, MatchOption, Ok, Err, OnErr, OnOk};
 ghost use Rattle.shelf.specs.Answers.{Became, Did, numbered, added, after_add, wiped, after_wipe};
 ghost use Rattle.masks.specs.Finding.{Blank};
 ghost use Rattle.masks.specs.Laws.{FreeIsZero, OneWriting};
@@ -17,6 +18,7 @@ ghost use Rattle.masks.specs.Soundness.{sound_masks};
 
 use pair::{HIGHEST, Pair};
 use shelf::literal::Literal;
+use shelf::memory::place_start;
 use shelf::refusal::Refusal;
 use shelf::store::Shelf;
 
@@ -31,6 +33,7 @@ const LONGEST: u32 = HIGHEST;
 // place's, is spare.
 #[derive(Drop)]
 pub struct MaskShelf<'a> {
+    // Lent, so that the caller decides about memory and the bench allocates nothing.
     words: &'a mut [u64],
     places: u16,
 }
@@ -50,7 +53,7 @@ impl<'a> MaskShelf<'a> {
         requires { places ≡ made_places (length words.old) }
         ensures { Fresh result words.old }
     {
-        words[0..2 * places as usize].fill(0);
+        words[..2 * usize::from(places)].fill(0);
         MaskShelf { words, places }
     }
 }
@@ -58,31 +61,22 @@ impl<'a> MaskShelf<'a> {
 impl MaskShelf<'_> {
     // The first of the two words of a place, unless there is no such place.
     fn start(&self, place: usize) -> Option<usize>
-        ensures { elim result [ None ↦ (in_order self.now → Misses self.now place) | Some at ↦ StartsAt self.now place at ] }
+        ensures { MatchOption result (in_order self.now → Misses self.now place) (λ at. StartsAt self.now place at) }
     {
-        if place >= self.places as usize {
-            return None;
-        }
-        let at = 2 * place;
-        if at + 2 > self.words.len() {
-            return None;
-        }
-        Some(at)
+        place_start(place, self.places, 2, self.words.len())
     }
 
     // The masks of a place; two that are empty where there is no such place.
+    #[tactic(auto, using(crate::proofs::Steps::shows_none))]
     fn masks(&self, place: usize) -> Pair
         ensures { in_order self.now → Reads self.now place result }
     {
-        match self.start(place) {
-            None => Pair {
-                literals: 0,
-                opposites: 0,
-            },
-            Some(at) => Pair {
-                literals: self.words[at],
-                opposites: self.words[at + 1],
-            },
+        let Some(at) = self.start(place) else {
+            return Pair::default();
+        };
+        Pair {
+            literals: self.words[at],
+            opposites: self.words[at + 1],
         }
     }
 
@@ -92,19 +86,15 @@ impl MaskShelf<'_> {
         ensures answer { in_order self.now → granted result ≡ added (meaning self.now) place literal.code }
         ensures slot { IfOk result (λ i. SlotAt self.now place literal.code i) }
     {
-        match self.start(place) {
-            None => Err(Refusal::NoSuchPlace),
-            Some(at) => {
-                let variable = literal.variable();
-                if variable < 1 || variable > HIGHEST {
-                    return Err(Refusal::NoSuchVariable);
-                }
-                if self.masks(place).has_variable(variable) {
-                    return Err(Refusal::VariableStands);
-                }
-                Ok(at + (literal.code % 2) as usize)
-            }
+        let at = self.start(place).ok_or(Refusal::NoSuchPlace)?;
+        let variable = literal.variable();
+        if !(1..=HIGHEST).contains(&variable) {
+            return Err(Refusal::NoSuchVariable);
         }
+        if self.masks(place).has_variable(variable) {
+            return Err(Refusal::VariableStands);
+        }
+        Ok(at + (literal.code % 2) as usize)
     }
 
     // Sets a literal's bit in its word.
@@ -123,8 +113,7 @@ impl MaskShelf<'_> {
         ensures spare { spare self.new ≡ spare self.old }
         ensures zero { Blank (words_of self.new) place }
     {
-        self.words[at] = 0;
-        self.words[at + 1] = 0;
+        self.words[at..at + 2].fill(0);
     }
 }
 
@@ -168,7 +157,7 @@ impl<'a> Shelf for MaskShelf<'a> {
     // Asks all, and only then sets the bit.
     fn add(&mut self, place: usize, literal: Literal) -> Result<(), Refusal>
         ensures did { in_order self.old → Did (in_order self.new) (numbered result) (added (meaning self.old) place literal.code) (meaning self.new) (after_add (meaning self.old) place literal.code) }
-        ensures refused { elim result [ Ok u ↦ Unit {0} | Err e ↦ self.new ≡ self.old ] }
+        ensures refused { OnErr result (self.new ≡ self.old) }
         ensures spare { spare self.new ≡ spare self.old }
     {
         let i = self.slot(place, literal)?;
@@ -179,33 +168,27 @@ impl<'a> Shelf for MaskShelf<'a> {
     // Zeroes both words.
     fn wipe(&mut self, place: usize) -> Result<(), Refusal>
         ensures did { in_order self.old → Did (in_order self.new) (numbered result) (wiped (meaning self.old) place) (meaning self.new) (after_wipe (meaning self.old) place) }
-        ensures refused { elim result [ Ok u ↦ Unit {0} | Err e ↦ self.new ≡ self.old ] }
+        ensures refused { OnErr result (self.new ≡ self.old) }
         ensures spare { spare self.new ≡ spare self.old }
         ensures zero { OnOk result (Blank (words_of self.new) place) }
     {
-        match self.start(place) {
-            None => Err(Refusal::NoSuchPlace),
-            Some(at) => {
-                self.clear(place, at);
-                Ok(())
-            }
-        }
+        let at = self.start(place).ok_or(Refusal::NoSuchPlace)?;
+        self.clear(place, at);
+        Ok(())
     }
 }
 
 // Masks in order leave nothing in memory but what they mean.
-pub fn masks_stand() -> u8
+#[tactic(auto, using(crate::proofs::Writings::free_is_zero, crate::proofs::Writings::one_writing))]
+pub fn masks_stand()
     ensures free { FreeIsZero }
     ensures same { OneWriting }
-{
-    0
-}
+{}
 
 // Makes a shelf over the words, adds one literal at place 0, and tells its size.
 pub fn lone_literal(words: &mut [u64], literal: Literal) -> Result<usize, Refusal>
     ensures { told result ≡ lone_answer (made_view (length words.old)) literal.code }
 {
     let mut shelf = MaskShelf::new(words);
-    shelf.add(0, literal)?;
-    Ok(shelf.size(0))
+    shelf::places::lone_literal(&mut shelf, literal)
 }

@@ -13,7 +13,7 @@ pub(crate) const HIGHEST: u32 = 64;
 
 // The bit v - 1 is set among the literals where that of the variable v stands, and
 // among the opposites where its opposite does.
-#[derive(Clone, Copy)]
+#[derive(Clone, Copy, Default)]
 pub(crate) struct Pair {
     pub(crate) literals: u64,
     pub(crate) opposites: u64,
@@ -21,6 +21,7 @@ pub(crate) struct Pair {
 
 impl Pair {
     // How many literals stand.
+    #[tactic(auto, using(crate::proofs::Codes::size_ones))]
     pub(crate) fn size(self) -> usize
         ensures low { result ≤ 128 }
         ensures is { result ≡ length (codes_of self.literals self.opposites) }
@@ -29,11 +30,12 @@ impl Pair {
     }
 
     // Whether a literal stands.
+    #[tactic(auto, using(crate::proofs::Codes::among_bit, crate::proofs::Codes::among_none))]
     pub(crate) fn has(self, literal: Literal) -> bool
         ensures { result ≡ among literal.code (codes_of self.literals self.opposites) }
     {
         let variable = literal.variable();
-        if variable < 1 || variable > HIGHEST {
+        if !(1..=HIGHEST).contains(&variable) {
             return false;
         }
         if literal.code % 2 == 0 {
@@ -44,6 +46,7 @@ impl Pair {
     }
 
     // Whether a variable stands, in either sign.
+    #[tactic(auto, using(crate::proofs::Codes::stands_bit))]
     pub(crate) fn has_variable(self, variable: u32) -> bool
         requires low { 1 ≤ variable }
         requires high { variable ≤ 64 }
@@ -53,6 +56,7 @@ impl Pair {
     }
 
     // The k-th literal, from 0, by rising code; code 0 past the size.
+    #[tactic(auto, using(crate::proofs::Listing::code_past, crate::proofs::Listing::code_literal, crate::proofs::Listing::code_opposite))]
     pub(crate) fn literal(self, k: usize) -> Literal
         ensures { bit_and self.literals self.opposites ≡ 0 → result.code ≡ slice_index (codes_of self.literals self.opposites) k }
     {
@@ -61,14 +65,11 @@ impl Pair {
             return Literal { code: 0 };
         }
         let lowest = left.trailing_zeros();
+        let variable = lowest as u16 + 1;
         if bit(self.literals, lowest) {
-            Literal {
-                code: 2 * (lowest + 1),
-            }
+            Literal::of(variable)
         } else {
-            Literal {
-                code: 2 * (lowest + 1) + 1,
-            }
+            Literal::not(variable)
         }
     }
 }
@@ -78,10 +79,12 @@ fn bit(mask: u64, k: u32) -> bool
     requires { k < 64 }
     ensures { result ≡ (digit k mask == 1) }
 {
-    (mask >> k) & 1 == 1
+    (mask >> k) % 2 == 1
 }
 
-// A mask without the lowest k of its bits that are set.
+// A mask without the lowest k of its bits that are set. A loop, since it ends where no
+// bit is left, which a fold over 0..k does not.
+#[tactic(auto, using(crate::proofs::Listing::lowest_cleared, crate::proofs::Listing::none_left, std::proofs::lemmas::Nat::and_le_l))]
 fn without_lowest(mask: u64, k: usize) -> u64
     ensures { variables 64 1 result ≡ drop k (variables 64 1 mask) }
 {

@@ -5,44 +5,26 @@ use crate::{MaskShelf, lone_literal};
 use shelf::literal::Literal;
 use shelf::refusal::Refusal;
 use shelf::store::Shelf;
-
-// The number of a refusal, or 0.
-fn told(r: Result<(), Refusal>) -> u8 {
-    match r {
-        Ok(()) => 0,
-        Err(e) => e.number(),
-    }
-}
+use std::test::Fail;
 
 #[test]
-fn the_highest_variable_in_both_signs(rt: HostRuntime) {
+fn the_highest_variable_in_both_signs(rt: HostRuntime) -> Result<(), Fail> {
     let mut words = [7u64; 4];
     {
         let mut shelf = MaskShelf::new(&mut words);
-        assert_eq!(rt;
-            [
-                shelf.place_count(),
-                shelf.highest_variable(),
-                shelf.longest_clause(),
-            ],
-            [2, 64, 64]
-        );
-        let _ = shelf.add(0, Literal::of(64));
-        let _ = shelf.add(1, Literal::not(64));
-        assert_eq!(rt;
-            [shelf.literal(0, 0).code, shelf.literal(1, 0).code],
-            [128, 129]
-        );
-        assert_eq!(rt;
-            [
-                shelf.holds(0, Literal::of(64)),
-                shelf.holds(0, Literal::not(64)),
-            ],
-            [true, false]
-        );
+        assert_eq!(rt; shelf.place_count(), 2);
+        assert_eq!(rt; shelf.highest_variable(), 64);
+        assert_eq!(rt; shelf.longest_clause(), 64);
+        shelf.add(0, Literal::of(64))?;
+        shelf.add(1, Literal::not(64))?;
+        assert_eq!(rt; shelf.literal(0, 0).code, 128);
+        assert_eq!(rt; shelf.literal(1, 0).code, 129);
+        assert!(rt; shelf.holds(0, Literal::of(64)));
+        assert!(rt; !shelf.holds(0, Literal::not(64)));
     }
     let top = 9223372036854775808;
     assert_eq!(rt; words, [top, 0, 0, top]);
+    Ok(())
 }
 
 #[test]
@@ -50,85 +32,82 @@ fn refusals_come_in_order(rt: HostRuntime) {
     let mut words = [0u64; 2];
     {
         let mut shelf = MaskShelf::new(&mut words);
-        let early = [
-            told(shelf.add(1, Literal { code: 0 })),
-            told(shelf.add(0, Literal { code: 0 })),
-            told(shelf.add(0, Literal { code: 1 })),
-            told(shelf.add(0, Literal { code: 130 })),
-            told(shelf.add(0, Literal { code: 131 })),
-        ];
-        assert_eq!(rt; early, [81, 82, 82, 82, 82]);
-        let late = [
-            told(shelf.add(0, Literal::not(3))),
-            told(shelf.add(0, Literal::of(3))),
-            told(shelf.add(0, Literal::not(3))),
-            told(shelf.wipe(1)),
-        ];
-        assert_eq!(rt; late, [0, 83, 83, 81]);
-        assert_eq!(rt;
-            [
-                shelf.holds(0, Literal { code: 1 }),
-                shelf.holds(0, Literal { code: 130 }),
-                shelf.holds(1, Literal::not(3)),
-            ],
-            [false, false, false]
-        );
+        for (place, code, answer) in [
+            (1, 0, Err(81)),
+            (0, 0, Err(82)),
+            (0, 1, Err(82)),
+            (0, 130, Err(82)),
+            (0, 131, Err(82)),
+        ] {
+            let added = shelf.add(place, Literal { code }).map_err(Refusal::number);
+            assert_eq!(rt; added, answer, "{code} at {place}");
+        }
+        for (literal, answer) in [
+            (Literal::not(3), Ok(())),
+            (Literal::of(3), Err(83)),
+            (Literal::not(3), Err(83)),
+        ] {
+            let added = shelf.add(0, literal).map_err(Refusal::number);
+            assert_eq!(rt; added, answer, "{literal:?}");
+        }
+        assert_eq!(rt; shelf.wipe(1).map_err(Refusal::number), Err(81));
+        assert!(rt; !shelf.holds(0, Literal { code: 1 }));
+        assert!(rt; !shelf.holds(0, Literal { code: 130 }));
+        assert!(rt; !shelf.holds(1, Literal::not(3)));
     }
     assert_eq!(rt; words, [0, 4]);
 }
 
 #[test]
-fn spare_words_stay(rt: HostRuntime) {
+fn spare_words_stay(rt: HostRuntime) -> Result<(), Fail> {
     let mut words = [7u64; 3];
     {
         let mut shelf = MaskShelf::new(&mut words);
-        assert_eq!(rt;
-            [shelf.place_count(), shelf.size(0), shelf.size(1)],
-            [1, 0, 0]
-        );
-        let _ = shelf.add(0, Literal::of(2));
-        assert_eq!(rt; [told(shelf.wipe(0)), told(shelf.wipe(1))], [0, 81]);
+        assert_eq!(rt; shelf.place_count(), 1);
+        assert_eq!(rt; (shelf.size(0), shelf.size(1)), (0, 0));
+        shelf.add(0, Literal::of(2))?;
+        shelf.wipe(0)?;
+        assert_eq!(rt; shelf.wipe(1).map_err(Refusal::number), Err(81));
     }
     assert_eq!(rt; words, [0, 0, 7]);
+    Ok(())
 }
 
 #[test]
-fn codes_rise(rt: HostRuntime) {
+fn codes_rise(rt: HostRuntime) -> Result<(), Fail> {
     let mut words = [0u64; 2];
     let mut shelf = MaskShelf::new(&mut words);
-    let _ = shelf.add(0, Literal::of(40));
-    let _ = shelf.add(0, Literal::not(1));
-    let _ = shelf.add(0, Literal::of(2));
-    assert_eq!(rt;
-        [
-            shelf.literal(0, 0).code,
-            shelf.literal(0, 1).code,
-            shelf.literal(0, 2).code,
-            shelf.literal(0, 3).code,
-        ],
-        [3, 4, 80, 0]
-    );
+    for literal in [Literal::of(40), Literal::not(1), Literal::of(2)] {
+        shelf.add(0, literal)?;
+    }
+    for (k, code) in [3, 4, 80, 0].into_iter().enumerate() {
+        assert_eq!(rt; shelf.literal(0, k).code, code, "at {k}");
+    }
+    Ok(())
 }
 
 #[test]
-fn every_variable_at_one_place(rt: HostRuntime) {
+fn every_variable_at_one_place(rt: HostRuntime) -> Result<(), Fail> {
     let mut words = [0u64; 2];
     let mut shelf = MaskShelf::new(&mut words);
     for v in 1..65u16 {
-        let _ = shelf.add(0, Literal::not(v));
+        shelf.add(0, Literal::not(v))?;
     }
     assert_eq!(rt; shelf.size(0), 64);
+    assert_eq!(rt; shelf.literal(0, 63).code, 129);
+    assert_eq!(rt; shelf.literal(0, 64).code, 0);
     assert_eq!(rt;
-        [shelf.literal(0, 63).code, shelf.literal(0, 64).code],
-        [129, 0]
+        shelf.add(0, Literal::of(17)).map_err(Refusal::number),
+        Err(83)
     );
-    assert_eq!(rt; told(shelf.add(0, Literal::of(17))), 83);
+    Ok(())
 }
 
+// A test of each shelf by itself, as on rows: the words that are left differ.
 #[test]
 fn one_literal(rt: HostRuntime) {
     let mut words = [7u64; 3];
-    assert_eq!(rt; lone_literal(&mut words, Literal::of(2)).ok(), Some(1));
+    assert_eq!(rt; lone_literal(&mut words, Literal::of(2)), Ok(1));
     assert_eq!(rt; words, [2, 0, 7]);
-    assert_eq!(rt; lone_literal(&mut words, Literal::of(0)).ok(), None);
+    assert!(rt; lone_literal(&mut words, Literal::of(0)).is_err());
 }

@@ -1,5 +1,6 @@
 // A whole case on each pile, with no premise left: one variable, the soft clause {1}
-// with some figures at place 0, a plan that meets it, and the claim.
+// with some figures at place 0, a plan that meets it, and the claim. A caller for each pile, each
+// of one line over the generic one: it makes its own shelf, so that its contract has no premise.
 ghost use Rattle.std.specs.Prelude.{◌≡◌, length};
 ghost use Rattle.bench.specs.Meaning.{cheapest_told};
 ghost use Rattle.cost.specs.Kinds.{Kind};

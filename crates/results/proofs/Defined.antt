@@ -2,11 +2,12 @@
 -- in whose variable does not stand there, so it rises and none vanishes.
 use Rattle.std.proofs.Common.{◌≡◌, ℕ, zero, suc, ◌+◌, ◌-◌, ◌*◌, ◌/◌, ◌<◌, ◌≤◌, true, false, ◌&&◌, eqb, leb, List, [], ◌∷◌, length, get_or, refl, ap, ◌∙◌, arith}
 use Rattle.std.proofs.lemmas.List.{get_or_past}
+use Rattle.std.proofs.lemmas.List.Elements.{All-nil, All-cons}
 use Rattle.std.proofs.lemmas.Bool.{le-leb, lt-leb, eqb-false, ne_eqb, or_parts, or_from, and_left, and_from}
 use Rattle.shelf.specs.Literals.{opposite, Rising, stands, put, none}
 use Rattle.rules.specs.Clauses.{vanishes}
 use Rattle.rules.specs.Results.{halves, implied, defining, kept, short_enough}
-use Rattle.results.specs.Spread.{AllSpread}
+use Rattle.results.specs.Spread.{Spread, AllSpread}
 use Rattle.results.proofs.Putting.{length-put, rising_put, rising_clean}
 use Rattle.results.proofs.Shapes.{spread_first}
 
@@ -46,10 +47,10 @@ none_put c cs = go (put c cs) (length-put c cs)
 
 module _ (top d : ℕ) (some : 1 ≤ d) (known : d ≤ top) where
   -- a clause with one literal of the variable d more
-  pub put_rises : (c : ℕ) (cs : List ℕ) → c / 2 ≡ d → Rising top 0 cs → stands d cs ≡ false → Rising top 0 (put c cs)
+  put_rises : (c : ℕ) (cs : List ℕ) → c / 2 ≡ d → Rising top 0 cs → stands d cs ≡ false → Rising top 0 (put c cs)
   put_rises c cs e r s = rising_put top 0 c cs r (omega arith) (omega arith) (stands_as c d cs e s)
 
-  pub put_clean : (c : ℕ) (cs : List ℕ) → c / 2 ≡ d → Rising top 0 cs → stands d cs ≡ false → vanishes (put c cs) ≡ false
+  put_clean : (c : ℕ) (cs : List ℕ) → c / 2 ≡ d → Rising top 0 cs → stands d cs ≡ false → vanishes (put c cs) ≡ false
   put_clean c cs e r s = rising_clean top 0 (put c cs) (put_rises c cs e r s)
 
   kept_put : (c : ℕ) (cs : List ℕ) (rs : List (List ℕ)) → c / 2 ≡ d → Rising top 0 cs → stands d cs ≡ false → kept (put c cs ∷ rs) ≡ put c cs ∷ kept rs
@@ -74,13 +75,15 @@ module _ (top d : ℕ) (some : 1 ≤ d) (known : d ≤ top) where
 
   implied_spread : (b : ℕ) (ls : List ℕ) → Rising top b ls → stands d ls ≡ false → AllSpread top (implied d ls)
   unfolding implied
-  implied_spread b [] r s k = tt
-  implied_spread b (l ∷ ls) r s zero = spread_first top (put (2 * d) (opposite l ∷ [])) (put_rises (2 * d) (opposite l ∷ []) (omega arith) (alone_rises b l r.0 r.1) (alone_new l ls s).0)
-  implied_spread b (l ∷ ls) r s (suc k) = implied_spread (l / 2) ls r.2 (alone_new l ls s).1 k
+  implied_spread b [] r s = All-nil (Spread top 2)
+  implied_spread b (l ∷ ls) r s =
+      All-cons (Spread top 2) (put (2 * d) (opposite l ∷ [])) (implied d ls)
+      (spread_first top (put (2 * d) (opposite l ∷ [])) (put_rises (2 * d) (opposite l ∷ []) (omega arith) (alone_rises b l r.0 r.1) (alone_new l ls s).0))
+      (implied_spread (l / 2) ls r.2 (alone_new l ls s).1)
 
   pub defining_spread : (ls : List ℕ) → Rising top 0 ls → stands d ls ≡ false → AllSpread top (defining d ls)
-  defining_spread ls r s zero = spread_first top (put (2 * d + 1) ls) (put_rises (2 * d + 1) ls (omega arith) r s)
-  defining_spread ls r s (suc k) = implied_spread 0 ls r s k
+  defining_spread ls r s =
+      All-cons (Spread top 2) (put (2 * d + 1) ls) (implied d ls) (spread_first top (put (2 * d + 1) ls) (put_rises (2 * d + 1) ls (omega arith) r s)) (implied_spread 0 ls r s)
 
   kept_implied : (b : ℕ) (ls : List ℕ) → Rising top b ls → stands d ls ≡ false → kept (implied d ls) ≡ implied d ls
   unfolding implied kept

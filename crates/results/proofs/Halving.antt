@@ -1,8 +1,8 @@
 -- A split, call by call: the variable is added at the place, the clause is copied to
 -- the other place, and the opposite is added there.
-use Rattle.std.proofs.Common.{◌≡◌, ℕ, ◌+◌, ◌*◌, ◌/◌, ◌<◌, ◌≤◌, Bool, true, false, cond, not, ltb, List, [], length, set, is_ok, Ok, Result, sym, refl, ap, ◌∙◌, arith}
+use Rattle.std.proofs.Common.{◌≡◌, ℕ, ◌+◌, ◌*◌, ◌/◌, ◌<◌, ◌≤◌, true, false, cond, not, ltb, List, [], length, set, is_ok, Ok, Result, refl, ap, ◌∙◌, arith}
 use Rattle.std.proofs.lemmas.List.{get_or-set_same, get_or-set_other, set-set, length-set}
-use Rattle.std.proofs.lemmas.Bool.{ltb-true, lt-ltb, le-leb, and_parts, and_from}
+use Rattle.std.proofs.lemmas.Bool.{both_ways, not-true, ltb-true, lt-ltb, le-leb, and_parts, and_from}
 use Rattle.shelf.specs.Literals.{stands, put, none}
 use Rattle.shelf.specs.View.{View, Sound, clause, with_held}
 use Rattle.shelf.specs.Room.{Writable}
@@ -18,19 +18,13 @@ added_here v p c h l m s k =
 
 module _ (v : View) (p x to : ℕ) (sound : Sound v) (may : Splittable v p x to) where
   there : (p < v.places) × (none (clause v p) ≡ false)
-  there =
-      let a = and_parts (ltb p v.places) (not (none (clause v p))) may.there in
-      (ltb-true p v.places a.0, flip (none (clause v p)) a.1)
-    where
-      flip : (b : Bool) → not b ≡ true → b ≡ false
-      flip true e = sym e
-      flip false e = refl
+  there = let a = and_parts (ltb p v.places) (not (none (clause v p))) may.there in (ltb-true p v.places a.0, not-true (none (clause v p)) a.1)
 
   room : (to < v.places) × (none (clause v to) ≡ true)
   room = let a = and_parts (ltb to v.places) (none (clause v to)) may.room in (ltb-true to v.places a.0, a.1)
 
   apart : to ≡ p → ⊥
-  apart e = let f : true ≡ false = sym room.1 ∙ ap (λ (q : ℕ). none (clause v q)) e ∙ there.1 in let z : ◌≡◌ {A = ℕ} 0 1 = cc in omega arith
+  apart e = both_ways (none (clause v to)) (ap (λ (q : ℕ). none (clause v q)) e ∙ there.1) room.1
 
   abbrev cs : List ℕ
   cs = clause v p
@@ -38,7 +32,7 @@ module _ (v : View) (p x to : ℕ) (sound : Sound v) (may : Splittable v p x to)
   abbrev with_variable : View
   with_variable = with_held v (set v.held p (put (2 * x) cs))
 
-  pub first_added : {c : ℕ} → c ≡ 2 * x → after_add v p c ≡ with_variable
+  first_added : {c : ℕ} → c ≡ 2 * x → after_add v p c ≡ with_variable
   first_added {c = c} e =
       let f : 2 * x / 2 ≡ x = omega arith in
       let s : stands (2 * x / 2) (clause v p) ≡ false = rw f may.new in
@@ -46,7 +40,7 @@ module _ (v : View) (p x to : ℕ) (sound : Sound v) (may : Splittable v p x to)
       let m = may.known in
       ap (after_add v p) e ∙ added_here v p (2 * x) there.0 (omega arith) (omega arith) s may.short
 
-  pub may_copy : Writable with_variable to cs
+  may_copy : Writable with_variable to cs
   may_copy =
       let same : clause with_variable to ≡ clause v to = get_or-set_other v.held p to (put (2 * x) cs) [] apart in
       let k = may.short in
@@ -59,7 +53,7 @@ module _ (v : View) (p x to : ℕ) (sound : Sound v) (may : Splittable v p x to)
   abbrev copied : View
   copied = with_held with_variable (set with_variable.held to cs)
 
-  pub second_added : {c : ℕ} → c ≡ 2 * x + 1 → after_add copied to c ≡ split_view v p x to
+  second_added : {c : ℕ} → c ≡ 2 * x + 1 → after_add copied to c ≡ split_view v p x to
   second_added {c = c} e =
       let f : (2 * x + 1) / 2 ≡ x = omega arith in
       let n : length (set v.held p (put (2 * x) cs)) ≡ v.places = length-set v.held p (put (2 * x) cs) ∙ sound.count in
@@ -73,9 +67,9 @@ module _ (v : View) (p x to : ℕ) (sound : Sound v) (may : Splittable v p x to)
       ∙ ap (with_held v) (set-set with_variable.held to cs (put (2 * x + 1) (clause copied to)))
       ∙ ap (λ (ds : List ℕ). with_held v (set with_variable.held to (put (2 * x + 1) ds))) here
 
--- what changes only clauses, twice
-pub framed_again : (v w u : View) → w ≡ with_held v w.held → u ≡ with_held w u.held → u ≡ with_held v u.held
-framed_again v w u e f = f ∙ ap (λ (z : View). with_held z u.held) e
-
-pub framed_add : (v w : View) (p c : ℕ) → w ≡ after_add v p c → w ≡ with_held v w.held
-framed_add v w p c e = e ∙ ap (λ (z : View). with_held v z.held) (sym e)
+  -- w₁, w₂ and w₃ are what the shelf means after each call
+  pub halved : {ds : List ℕ} {c d : ℕ} {w₁ w₂ w₃ : View} → ds ≡ clause v p → c ≡ 2 * x → d ≡ 2 * x + 1 → w₁ ≡ after_add v p c → (Writable w₁ to ds → w₂ ≡ with_held w₁ (set w₁.held to ds)) → w₃ ≡ after_add w₂ to d → w₃ ≡ split_view v p x to
+  halved {d = d} {w₁ = w₁} {w₂ = w₂} e f g one two three =
+      let first : w₁ ≡ with_variable = one ∙ first_added f in
+      let second : w₂ ≡ copied = two (rw (first, e) may_copy) ∙ rw (first, e) refl in
+      three ∙ ap (λ (w : View). after_add w to d) second ∙ second_added g

@@ -3,6 +3,7 @@ pub mod Clashing
 pub mod Shapes
 pub mod Putting
 pub mod Defined
+pub mod Framing
 pub mod Halving
 pub mod Listing
 pub mod Tallying

@@ -1,38 +1,11 @@
--- One code put into a rising list. Code by code, what is written so far and what is
--- still to come make up the whole; and a variable that does not stand in a clause
--- can be put in with the clause still rising, so that nothing vanishes.
-use Rattle.std.proofs.Common.{◌≡◌, ℕ, suc, ◌+◌, ◌-◌, ◌*◌, ◌/◌, ◌<◌, ◌≤◌, Bool, true, false, cond, eqb, ltb, ◌⊎◌, List, [], ◌∷◌, ◌++◌, length, get_or, take, drop, set, refl, ap, ◌∙◌, inl, inr, arith}
-use Rattle.std.proofs.lemmas.List.{take_rest, drop_more, drop_all}
+-- One code put into a rising list: a variable that does not stand in a clause can be
+-- put in with the clause still rising, so that nothing vanishes.
+use Rattle.std.proofs.Common.{◌≡◌, ℕ, suc, ◌+◌, ◌*◌, ◌/◌, ◌<◌, ◌≤◌, Bool, true, false, cond, eqb, ltb, List, [], ◌∷◌, length, refl, ap, inl, inr, arith}
 use Rattle.std.proofs.lemmas.Bool.{lt-ltb, le-ltb, eqb-false, ne_eqb, or_parts, or_from, cases_lt}
 use Rattle.shelf.specs.Literals.{opposite, Rising, among, stands, put}
 use Rattle.rules.specs.Clauses.{vanishes}
 use Rattle.results.proofs.Clashing.{absent}
-use Rattle.results.proofs.Merging.{onward}
 use Rattle.results.proofs.Shapes.{spread_of}
-
--- so far k codes of `out` are written
-pub record Putting (c : ℕ) (codes out : List ℕ) (k : ℕ) : Type 0 where
-  pub low : k ≤ length codes
-  pub is : take k out ++ put c (drop k codes) ≡ put c codes
-
-pub put_begun : (c : ℕ) (codes out : List ℕ) → Putting c codes out 0
-put_begun c codes out = record { low = omega arith; is = refl }
-
-pub put_more : {c : ℕ} {codes out : List ℕ} {k : ℕ} → Putting c codes out k → k < length codes → k < length out → get_or codes k 0 ≤ c → Putting c codes (set out k (get_or codes k 0)) (k + 1)
-unfolding put
-put_more {c = c} {codes = codes} {out = out} {k = k} p h r l =
-    let e : put c (drop k codes) ≡ get_or codes k 0 ∷ put c (drop (k + 1) codes) = rw (drop_more codes k 0 h, le-ltb c (get_or codes k 0) l) in
-    record { low = omega arith; is = onward out (put c (drop (k + 1) codes)) k (get_or codes k 0) r e p.is }
-
-put_here : (c : ℕ) (codes : List ℕ) (k : ℕ) → (length codes ≤ k) ⊎ ((k < length codes) × (c < get_or codes k 0)) → put c (drop k codes) ≡ c ∷ drop k codes
-unfolding put
-put_here c codes k (inl h) = rw (drop_all k codes h)
-put_here c codes k (inr h) = let l = h.0 in let m = h.1 in rw (drop_more codes k 0 l, lt-ltb c (get_or codes k 0) m)
-
-pub put_done : {c : ℕ} {codes out w : List ℕ} {k : ℕ} → Putting c codes out k → k < length out → (length codes ≤ k) ⊎ ((k < length codes) × (c < get_or codes k 0))
-    → w ≡ take (k + 1) (set out k c) ++ take (length codes - k) (drop k codes) → w ≡ put c codes
-put_done {c = c} {codes = codes} {out = out} {k = k} p h d e =
-    e ∙ ap (λ (l : List ℕ). take (k + 1) (set out k c) ++ l) (take_rest codes k) ∙ onward out (drop k codes) k c h (put_here c codes k d) p.is
 
 pub length-put : (c : ℕ) (cs : List ℕ) → length (put c cs) ≡ suc (length cs)
 unfolding put

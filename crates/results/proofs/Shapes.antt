@@ -1,17 +1,18 @@
 -- What stays rising. A merge keeps the codes rising, and where no literal stands
 -- with its opposite the variables rise too.
-use Rattle.std.proofs.Common.{◌≡◌, ℕ, zero, suc, ◌+◌, ◌*◌, ◌/◌, ◌<◌, ◌≤◌, Bool, true, false, cond, eqb, List, [], ◌∷◌, get_or, sym, subst, inl, inr, arith}
+use Rattle.std.proofs.Common.{◌≡◌, ℕ, ◌+◌, ◌*◌, ◌/◌, ◌<◌, ◌≤◌, Bool, true, false, cond, eqb, List, [], ◌∷◌, sym, subst, inl, inr, arith}
 use Rattle.std.proofs.lemmas.Bool.{lt-ltb, le-ltb, eq-eqb, ne_eqb, eqb-false, or_parts, cases_order, cases_eq}
 use Rattle.shelf.specs.Literals.{opposite, Rising, among}
 use Rattle.rules.specs.Clauses.{without, into, merge, compensations, vanishes}
-use Rattle.results.specs.Spread.{Spread}
+use Rattle.results.specs.Spread.{Spread, AllSpread}
+use Rattle.std.proofs.lemmas.List.Elements.{All-nil, All-cons}
 
 module _ (top : ℕ) where
-  pub spread_less : (b c : ℕ) (cs : List ℕ) → Spread top b cs → c ≤ b → Spread top c cs
+  spread_less : (b c : ℕ) (cs : List ℕ) → Spread top b cs → c ≤ b → Spread top c cs
   spread_less b c [] s h = tt
   spread_less b c (d ∷ ds) s h = let l = s.0 in (omega arith, s.1, s.2)
 
-  pub rising_less : (b c : ℕ) (cs : List ℕ) → Rising top b cs → c ≤ b → Rising top c cs
+  rising_less : (b c : ℕ) (cs : List ℕ) → Rising top b cs → c ≤ b → Rising top c cs
   rising_less b c [] s h = tt
   rising_less b c (d ∷ ds) s h = let l = s.0 in (omega arith, s.1, s.2)
 
@@ -57,7 +58,7 @@ module _ (top : ℕ) where
       let w = or_parts (among (opposite c) cs) (vanishes cs) v in
       (omega arith, s.1, rising_after c cs s.2 w.0 w.1)
 
-  pub rising_turned : (b c : ℕ) (cs : List ℕ) → Rising top b (c ∷ cs) → Rising top b (opposite c ∷ cs)
+  rising_turned : (b c : ℕ) (cs : List ℕ) → Rising top b (c ∷ cs) → Rising top b (opposite c ∷ cs)
   rising_turned b c cs r =
       let e : opposite c / 2 ≡ c / 2 = omega arith in
       let P : ℕ → Type 0 = λ n. (b < n) × (n ≤ top) × Rising top n cs in
@@ -78,9 +79,10 @@ module _ (top : ℕ) where
   pub spread_first : (cs : List ℕ) → Rising top 0 cs → Spread top 2 cs
   spread_first cs r = spread_of 0 cs r
 
-  pub compensations_spread : (p : List ℕ) (b : ℕ) (bs : List ℕ) → Rising top 0 p → Rising top b bs → (k : ℕ) → Spread top 2 (get_or (compensations p bs) k [])
+  pub compensations_spread : (p : List ℕ) (b : ℕ) (bs : List ℕ) → Rising top 0 p → Rising top b bs → AllSpread top (compensations p bs)
   unfolding compensations
-  compensations_spread p b [] hp hb k = tt
-  compensations_spread p b (c ∷ cs) hp hb zero =
-      merge_spread p 2 (opposite c ∷ cs) (spread_first p hp) (spread_first (opposite c ∷ cs) (rising_less b 0 (opposite c ∷ cs) (rising_turned b c cs hb) (omega arith)))
-  compensations_spread p b (c ∷ cs) hp hb (suc k) = compensations_spread p (c / 2) cs hp hb.2 k
+  compensations_spread p b [] hp hb = All-nil (Spread top 2)
+  compensations_spread p b (c ∷ cs) hp hb =
+      All-cons (Spread top 2) (merge p (opposite c ∷ cs)) (compensations p cs)
+      (merge_spread p 2 (opposite c ∷ cs) (spread_first p hp) (spread_first (opposite c ∷ cs) (rising_less b 0 (opposite c ∷ cs) (rising_turned b c cs hb) (omega arith))))
+      (compensations_spread p (c / 2) cs hp hb.2)

@@ -9,10 +9,9 @@ use Rattle.rules.specs.Results.{defining}
 use Rattle.shelf.specs.Literals.{Rising, stands}
 use Rattle.shelf.specs.View.{View}
 use Rattle.results.specs.declared.definition.Definition.{Definition}
-use Rattle.results.specs.Parents.{codes_of}
 
 abbrev pub definition_of : Definition → List (List ℕ)
-definition_of d = defining d.variable (codes_of d.literals)
+definition_of d = defining d.variable d.literals.items
 
 pub record Definable (v : View) (d : ℕ) (ls : List ℕ) : Type 0 where
   pub rises : Rising v.highest 0 ls

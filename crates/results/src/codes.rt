@@ -1,119 +1,93 @@
-// Clauses in scratch memory: slices of literal codes that rise. What is made of
-// them goes to the front of a slice `out`, and how many codes it has is returned.
-ghost use Rattle.std.specs.Prelude.{◌≡◌, ℕ, ◌+◌, ◌≤◌, ◌++◌, length, take};
+// Clauses in scratch memory, as vectors of literal codes that rise, and what is
+// made of them.
+ghost use Rattle.std.specs.Prelude.{◌≡◌, ℕ, ◌<◌, ◌≤◌, length, drop};
 ghost use Rattle.rules.specs.Clauses.{merge as union, vanishes, without as left_without};
 ghost use Rattle.results.specs.Turned.{turned};
-ghost use Rattle.shelf.specs.Literals.{opposite as opposite_of, put as put_in};
+ghost use Rattle.shelf.specs.Literals.{put as put_in};
 ghost use Rattle.results.specs.Spread.{Spread};
 
+use arrayvec::ArrayVec;
 use shelf::literal::Literal;
+use shelf::places::ClauseCodes;
+use std::cmp::Ordering;
 
-// The code of the opposite literal.
-pub(crate) fn opposite(code: u32) -> u32
-    ensures { result ≡ opposite_of code }
-{
-    Literal { code }.opposite().code
-}
+// The codes of a result: at most those of two clauses.
+pub(crate) type ResultCodes = ArrayVec<u32, 510>;
 
 // The codes but for one.
-pub(crate) fn without(codes: &[u32], code: u32, out: &mut [u32]) -> usize
-    requires { length codes.now ≤ length out.old }
-    ensures low { result ≤ length codes.now }
-    ensures is { take result out.new ≡ left_without code codes.now }
+pub(crate) fn without(codes: &ClauseCodes, code: u32) -> ClauseCodes
+    ensures { result.items ≡ left_without code codes.now.items }
 {
-    let mut n: usize = 0;
-    for c in codes {
+    let mut rest = ClauseCodes::new();
+    for c in codes.iter() {
         if code != *c {
-            out[n] = *c;
-            n += 1;
+            rest.push(*c);
         }
     }
-    n
-}
-
-// Puts the codes behind the first n of `out`; how many there are then.
-fn append(codes: &[u32], out: &mut [u32], n: usize) -> usize
-    requires { n + length codes.now ≤ length out.old }
-    ensures count { result ≡ n + length codes.now }
-    ensures is { take result out.new ≡ take n out.old ++ codes.now }
-{
-    let mut k = n;
-    for c in codes {
-        out[k] = *c;
-        k += 1;
-    }
-    k
+    rest
 }
 
 // The codes with one more, put in before the first greater one.
-pub(crate) fn put(codes: &[u32], code: u32, out: &mut [u32]) -> usize
-    requires { length codes.now + 1 ≤ length out.old }
-    ensures low { result ≤ length codes.now + 1 }
-    ensures is { take result out.new ≡ put_in code codes.now }
+pub(crate) fn put(codes: &[u32], code: u32) -> ResultCodes
+    requires { length codes.now < 510 }
+    ensures { result.items ≡ put_in code codes.now }
 {
-    let mut k: usize = 0;
-    while k < codes.len() && codes[k] <= code {
-        out[k] = codes[k];
-        k += 1;
-    }
-    out[k] = code;
-    append(&codes[k..], out, k + 1)
+    let at = codes.iter().position(|c| code < *c).unwrap_or(codes.len());
+    let mut more = ResultCodes::new();
+    let _ = more.try_extend_from_slice(codes);
+    more.insert(at, code);
+    more
 }
 
 // The union of two rising lists.
-pub(crate) fn merge(x: &[u32], y: &[u32], out: &mut [u32]) -> usize
-    requires { length x.now + length y.now ≤ length out.old }
-    ensures low { result ≤ length x.now + length y.now }
-    ensures is { take result out.new ≡ union x.now y.now }
+pub(crate) fn merge(x: &ClauseCodes, y: &ClauseCodes) -> ResultCodes
+    ensures { result.items ≡ union x.now.items y.now.items }
 {
-    let mut i: usize = 0;
-    let mut j: usize = 0;
-    let mut n: usize = 0;
-    while i < x.len() && j < y.len() {
-        let a = x[i];
-        let b = y[j];
-        if a < b {
-            out[n] = a;
-            i += 1;
-        } else if a == b {
-            out[n] = a;
-            i += 1;
-            j += 1;
-        } else {
-            out[n] = b;
-            j += 1;
+    let mut both = ResultCodes::new();
+    let mut xs = x.as_slice();
+    let mut ys = y.as_slice();
+    while let ([a, later_xs @ ..], [b, later_ys @ ..]) = (xs, ys) {
+        match a.cmp(b) {
+            Ordering::Less => {
+                both.push(*a);
+                xs = later_xs;
+            }
+            Ordering::Equal => {
+                both.push(*a);
+                xs = later_xs;
+                ys = later_ys;
+            }
+            Ordering::Greater => {
+                both.push(*b);
+                ys = later_ys;
+            }
         }
-        n += 1;
     }
-    let n = append(&x[i..], out, n);
-    append(&y[j..], out, n)
+    let _ = both.try_extend_from_slice(xs);
+    let _ = both.try_extend_from_slice(ys);
+    both
 }
 
-// The union of x with y, whose first literal is turned into its opposite.
-pub(crate) fn merge_turned(x: &[u32], y: &[u32], out: &mut [u32]) -> usize
-    requires { (length y.now ≤ 255) × (length x.now + length y.now ≤ length out.old) }
-    ensures low { result ≤ length x.now + length y.now }
-    ensures is { take result out.new ≡ union x.now (turned y.now) }
+// The codes from the k-th on, the first of them turned into its opposite.
+pub(crate) fn turned_from(codes: &ClauseCodes, k: usize) -> ClauseCodes
+    requires { k < length codes.now.items }
+    ensures { result.items ≡ turned (drop k codes.now.items) }
 {
-    let mut store = [0u32; 255];
-    let tail = &mut store[..y.len()];
-    tail.copy_from_slice(y);
-    if tail.len() > 0 {
-        tail[0] = opposite(tail[0]);
+    let mut later = ClauseCodes::new();
+    if let [first, others @ ..] = &codes[k..] {
+        later.push(Literal { code: *first }.opposite().code);
+        let _ = later.try_extend_from_slice(others);
     }
-    merge(x, tail, out)
+    later
 }
 
-// Whether a literal stands beside its opposite.
+// Whether a literal stands beside its opposite. That the codes rise, here and where results are
+// placed, is a premise and no type: they do up to the shelf's highest variable, and a vector of
+// codes does not know the shelf.
 pub(crate) fn clashes(codes: &[u32]) -> bool
     ensures { (top : ℕ) → Spread top 2 codes.now → result ≡ vanishes codes.now }
 {
-    let mut last: u32 = 0;
-    for c in codes {
-        if *c == opposite(last) {
-            return true;
-        }
-        last = *c;
-    }
-    false
+    codes.windows(2).any(
+        |pair| matches!(pair, [a, b] if *b == Literal { code: *a }.opposite().code),
+    )
 }

@@ -3,16 +3,16 @@
 // opposite of each literal in turn.
 ghost use Rattle.results.specs.Definition.{definition_of};
 
-use crate::codes::{opposite, put};
+use crate::codes::{ResultCodes, put};
 use crate::listed::Listed;
-use crate::scratch::Scratch;
 use shelf::literal::Literal;
+use shelf::places::ClauseCodes;
 
-// The variable, and the literals of which one must be true for it to be.
+// The variable, and the codes of the literals of which one must be true for it to be.
 #[derive(Drop)]
 pub(crate) struct Definition {
     pub variable: u16,
-    pub literals: Scratch,
+    pub literals: ClauseCodes,
 }
 
 impl Listed for Definition {
@@ -20,20 +20,18 @@ impl Listed for Definition {
 
     // One for all literals, and one for each.
     fn count(&self) -> usize {
-        1 + self.literals.slice().len()
+        1 + self.literals.len()
     }
 
     // All literals first, then each in turn.
-    fn result(&self, t: usize, out: &mut [u32; 510]) -> usize {
-        let literals = self.literals.slice();
-        if t == 0 {
-            return put(literals, Literal::not(self.variable).code, out);
-        }
-        let k = t - 1;
-        if k < literals.len() {
-            let turned = [opposite(literals[k])];
-            return put(&turned, Literal::of(self.variable).code, out);
-        }
-        0
+    fn result(&self, t: usize) -> ResultCodes {
+        let Some(k) = t.checked_sub(1) else {
+            return put(&self.literals, Literal::not(self.variable).code);
+        };
+        let Some(code) = self.literals.get(k) else {
+            return ResultCodes::new();
+        };
+        let turned = Literal { code: *code }.opposite().code;
+        put(&[turned], Literal::of(self.variable).code)
     }
 }

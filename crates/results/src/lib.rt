@@ -12,6 +12,5 @@ mod listed;
 mod parents;
 mod placing;
 pub mod resolving;
-mod scratch;
 pub mod splitting;
 pub mod tallies;

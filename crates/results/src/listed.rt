@@ -1,6 +1,9 @@
 // Results made one by one. A result is made when it is asked for, and no list of
-// them is kept.
-ghost use Rattle.std.specs.Prelude.{◌≡◌, ℕ, ◌≤◌, List, [], length, take, slice_index_or};
+// them is kept. By number and no Iterator: they are gone through twice, to be counted and to be
+// placed, and a clause names the t-th of them.
+ghost use Rattle.std.specs.Prelude.{◌≡◌, ℕ, ◌≤◌, List, [], length, slice_index_or};
+
+use crate::codes::ResultCodes;
 
 // What makes the results of a step: `listed` is the list of them, in order.
 pub(crate) trait Listed {
@@ -11,8 +14,7 @@ pub(crate) trait Listed {
         ensures low { result ≤ 511 }
         ensures is { result ≡ length (listed self.now) };
 
-    // Puts the t-th result, from 0, to the front of `out`; how many codes it has.
-    fn result(&self, t: usize, out: &mut [u32; 510]) -> usize
-        ensures low { result ≤ 510 }
-        ensures is { take result out.new ≡ slice_index_or (listed self.now) t [] };
+    // The t-th result, from 0; empty past the last.
+    fn result(&self, t: usize) -> ResultCodes
+        ensures { result.items ≡ slice_index_or (listed self.now) t [] };
 }

@@ -1,9 +1,8 @@
 // The splitting of a place on a variable: its clause with the variable stays there,
 // and its clause with the opposite goes to another place.
 ghost use Rattle.std.specs.Prelude.{◌≡◌};
+ghost use Rattle.results.specs.Placing.{Framed};
 ghost use Rattle.results.specs.Splitting.{split_view, Splittable};
-ghost use Rattle.shelf.specs.Answers.{Became};
-ghost use Rattle.shelf.specs.View.{with_held};
 
 use shelf::literal::Literal;
 use shelf::places::{read_codes, write_codes};
@@ -13,11 +12,10 @@ use shelf::store::Shelf;
 // is still in order after, and nothing but what is held may have changed.
 pub fn split_place<S: Shelf>(shelf: &mut S, place: usize, variable: u16, to: usize)
     ensures did { S.fine shelf.old → Splittable (S.view shelf.old) place variable to → S.view shelf.new ≡ split_view (S.view shelf.old) place variable to }
-    ensures framed { S.fine shelf.old → Became (S.fine shelf.new) (S.view shelf.new) (with_held (S.view shelf.old) (S.view shelf.new).held) }
+    ensures framed { S.fine shelf.old → Framed (S.fine shelf.new) (S.view shelf.old) (S.view shelf.new) }
 {
-    let mut codes = [0u32; 255];
-    let count = read_codes(shelf, place, &mut codes);
+    let codes = read_codes(shelf, place);
     let _ = shelf.add(place, Literal::of(variable));
-    write_codes(shelf, to, &codes[..count]);
+    write_codes(shelf, to, &codes);
     let _ = shelf.add(to, Literal::not(variable));
 }

@@ -16,31 +16,22 @@ pub struct Tally {
     pub short: bool,
 }
 
-// The tally with one result more.
-fn noted(tally: Tally, codes: &[u32], longest: usize) -> Tally
-    requires { tally.kept < 511 }
-    ensures low { result.kept ≤ tally.kept + 1 }
-    ensures is { (top : ℕ) → Spread top 2 codes.now → result ≡ tally_one longest codes.now tally }
-{
-    if clashes(codes) {
-        return tally;
-    }
-    if codes.len() == 0 {
-        return Tally {
-            empty: true,
-            ..tally
-        };
-    }
-    if codes.len() <= longest {
-        return Tally {
-            kept: tally.kept + 1,
-            ..tally
-        };
-    }
-    Tally {
-        kept: tally.kept + 1,
-        short: false,
-        ..tally
+impl Tally {
+    // Counts one result more.
+    fn note(&mut self, codes: &[u32], longest: usize)
+        requires { self.old.kept < usize.MAX }
+        ensures low { self.new.kept ≤ self.old.kept + 1 }
+        ensures is { (top : ℕ) → Spread top 2 codes.now → self.new ≡ tally_one longest codes.now self.old }
+    {
+        if clashes(codes) {
+            return;
+        }
+        if codes.is_empty() {
+            self.empty = true;
+        } else {
+            self.kept += 1;
+            self.short = self.short && codes.len() <= longest;
+        }
     }
 }
 
@@ -54,11 +45,8 @@ pub(crate) fn survey<R: Listed>(rs: &R, longest: usize) -> Tally
         empty: false,
         short: true,
     };
-    let mut out = [0u32; 510];
-    let n = rs.count();
-    for t in 0..n {
-        let len = rs.result(t, &mut out);
-        tally = noted(tally, &out[..len], longest);
+    for t in 0..rs.count() {
+        tally.note(&rs.result(t), longest);
     }
     tally
 }

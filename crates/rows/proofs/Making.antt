@@ -1,13 +1,12 @@
 -- A shelf as it is made: its rows, and what it means.
 use Rattle.std.proofs.Common.{◌≡◌, ℕ, ◌+◌, ◌*◌, ◌/◌, ◌<◌, ◌≤◌, min, Bool, true, false, cond, ◌&&◌, leb, List, [], length, take, replicate, sym, ap, ◌∙◌, subst, arith}
 use Rattle.std.proofs.lemmas.Nat.{mul-le, div-add-mod'}
-use Rattle.std.proofs.lemmas.List.{get_or-replicate, length-replicate, ext_get_or}
 use Rattle.std.proofs.lemmas.Bool.{le-leb, and_from}
 use Rattle.shelf.specs.View.{View}
 use Rattle.rows.specs.Made.{in_limits, made_view}
-use Rattle.rows.specs.Rows.{Row, Rows, codes_of, held_in, row_at, used}
-use Rattle.rows.specs.Soundness.{held_length, held_at}
-use Rattle.rows.proofs.Rowing.{rows_apart}
+use Rattle.rows.specs.Rows.{Row, Rows, codes_at, codes_of, held_in, row_at, used}
+use Rattle.shelf.proofs.Holding.{free_at}
+use Rattle.shelf.proofs.Starting.{places_apart}
 use Rattle.rows.proofs.Writings.{zeros_codes, zeros_row, zeros_row_at}
 
 -- there is room for as many rows as the division gives
@@ -16,7 +15,7 @@ rows_fit n w P h = omega (arith, mul-le P w (n / w) w h (omega arith), div-add-m
 
 pub fresh_rows : (P V L : ℕ) (ws : List ℕ) → P ≤ 65535 → 1 ≤ V → V ≤ 65535 → 1 ≤ L → L ≤ 255 → used P L ≤ length ws → take (used P L) ws ≡ replicate (used P L) 0 → Rows P V L ws × (held_in P L ws ≡ replicate P [])
 fresh_rows P V L ws few vl vh ll lh room zeros =
-    let at : (p : ℕ) → p < P → row_at (L + 1) ws p ≡ replicate (L + 1) 0 = λ p h. zeros_row_at (L + 1) (used P L) ws p zeros (rows_apart (L + 1) p P h) in (
+    let at : (p : ℕ) → p < P → row_at (L + 1) ws p ≡ replicate (L + 1) 0 = λ p h. zeros_row_at (L + 1) (used P L) ws p zeros (places_apart (L + 1) p P h) in (
       record {
         places_few = few;
         highest_low = vl;
@@ -26,11 +25,7 @@ fresh_rows P V L ws few vl vh ll lh room zeros =
         room = room;
         each = λ p h. subst (Row V L) (sym (at p h)) (zeros_row V L (L + 1));
       },
-      ext_get_or [] (held_in P L ws) (replicate P []) (held_length P L ws ∙ sym (length-replicate P []))
-          (λ p h.
-          let l = held_length P L ws in
-          let q : p < P = omega arith in
-          held_at P L ws p q ∙ ap codes_of (at p q) ∙ zeros_codes (L + 1) ∙ sym (get_or-replicate P p [] [] q)),
+      free_at (codes_at L ws) P (λ p h. ap codes_of (at p h) ∙ zeros_codes (L + 1)),
     )
 
 abbrev made_by : Bool → ℕ → ℕ → ℕ → View

@@ -1,95 +1,114 @@
 -- What the methods find and change, over the measures and the words.
-use Rattle.std.proofs.Common.{◌≡◌, ℕ, ◌+◌, ◌-◌, ◌*◌, ◌/◌, ◌<◌, ◌≤◌, true, false, ◌&&◌, ltb, leb, List, [], length, get_or, take, drop, set, replicate, is_ok, Ok, sym, ap, ◌∙◌, subst, arith}
+use Rattle.std.proofs.Common.{◌≡◌, ℕ, ◌+◌, ◌-◌, ◌*◌, ◌/◌, ◌<◌, ◌≤◌, true, false, List, length, get_or, take, drop, set, replicate, is_ok, Ok, sym, ap, ◌∙◌, subst, arith}
 use borrow.Rule.Slice.PartMut.{put_mid}
-use Rattle.std.proofs.lemmas.List.{get_or_past, set_past}
-use Rattle.std.proofs.lemmas.Bool.{cond-true, lt-ltb, le-leb, and_from}
+use Rattle.std.specs.List.{insert}
+use Rattle.std.proofs.lemmas.List.{length-replicate}
+use Rattle.std.proofs.lemmas.Bool.{cond-true}
 use Rattle.shelf.proofs.Adding.{added_ok}
-use Rattle.shelf.specs.Answers.{Became, added, after_add, fitted, after_wipe}
+use Rattle.shelf.specs.Holding.{held_at}
+use Rattle.shelf.specs.Memory.{Starts}
+use Rattle.shelf.specs.Answers.{Became, added, after_add, after_wipe}
 use Rattle.shelf.specs.Literals.{Rising, put, stands}
 use Rattle.shelf.specs.View.{View, clause, with_held}
-use Rattle.rows.specs.Finding.{Found, Lacks, Starts}
-use Rattle.rows.specs.Rows.{Row, Rows, codes_of, held_in, row_at, rows_view}
-use Rattle.rows.specs.Soundness.{held_length, held_at, held_past}
+use Rattle.rows.specs.Finding.{Found, Gap}
+use Rattle.rows.specs.Rows.{Row, Rows, codes_at, codes_of, held_in, row_at, rows_view, used}
 use Rattle.rows.proofs.Puts.{rising_put}
-use Rattle.rows.proofs.Rowing.{codes_length, codes_getD, row_length, part_row, part_count, held_changed, rows_changed}
+use Rattle.rows.proofs.Rowing.{row_length, part_row, held_changed, row_here, row_wide, rows_changed, spare_kept}
 use Rattle.rows.proofs.Writings.{zeros_codes, zeros_row}
 
 -- ---- questions, at a row that was found
 
-pub row_found : (P L : ℕ) (ws : List ℕ) (p a : ℕ) → Starts P L ws p a → L ≤ 255 → get_or ws a 0 < L + 1 → Found P L ws p (take (a + (L + 1) - a) (drop a ws))
-row_found P L ws p a s narrow count =
-    let e = part_row (L + 1) p a ws s.at in
-    let room : p * (L + 1) + (L + 1) ≤ length ws = omega (arith, s.at, s.room) in
-    let l : length (take (a + (L + 1) - a) (drop a ws)) ≡ L + 1 = ap length e ∙ row_length (L + 1) ws p room in
-    let n : get_or (take (a + (L + 1) - a) (drop a ws)) 0 0 ≡ get_or ws a 0 = ap (λ (row : List ℕ). get_or row 0 0) e ∙ part_count (L + 1) p a ws s.at (omega arith) in
-    let row = take (a + (L + 1) - a) (drop a ws) in
-    let c : get_or row 0 0 < length row = omega arith in
-    let size = codes_length row c in
-    record {
-      place = s.place;
-      room = room;
-      words = e;
-      long = l;
-      short = omega arith;
-      count = c;
-      clause = held_at P L ws p s.place ∙ ap codes_of (sym e);
-      size = size;
-      codes = codes_getD row;
-      past = λ k h. get_or_past (codes_of row) k 0 (omega arith);
-    }
+-- the w words from a on, where the row of p begins
+module _ (P L : ℕ) (ws : List ℕ) (p a w : ℕ) (starts : Starts P (L + 1) (length ws) p a) (wide : w ≡ L + 1) (row : List ℕ) (cut : row ≡ take (a + w - a) (drop a ws)) where
+  row_is : row ≡ row_at (L + 1) ws p
+  row_is = cut ∙ part_row (L + 1) w p a ws wide starts.at
 
-pub row_lacks : (P L : ℕ) (ws : List ℕ) (p : ℕ) → P ≤ p → Lacks P L ws p
-row_lacks P L ws p h = record { place = h; clause = held_past P L ws p h; free = let l = held_length P L ws in set_past (held_in P L ws) p [] (omega arith) }
+  room : p * (L + 1) + (L + 1) ≤ length ws
+  room = omega (arith, starts.at, starts.room)
 
-pub found_added : (P V L : ℕ) (ws : List ℕ) (p : ℕ) (row : List ℕ) (c : ℕ) → Found P L ws p row → 1 ≤ c / 2 → c / 2 ≤ V → fitted (length row - 1) (codes_of row) c ≡ added (rows_view P V L ws) p c
-found_added P V L ws p row c f low high =
-    let l : length row - 1 ≡ L = omega (arith, f.long) in
-    ap (λ (n : ℕ). fitted n (codes_of row) c) l
-    ∙ ap (λ (cs : List ℕ). fitted L cs c) (sym f.clause)
-    ∙ sym (cond-true (leb 1 (c / 2) && leb (c / 2) V) _ _ (and_from (leb 1 (c / 2)) (leb (c / 2) V) (le-leb 1 (c / 2) low) (le-leb (c / 2) V high)))
-    ∙ sym (cond-true (ltb p P) _ _ (lt-ltb p P f.place))
+  row_long : length row ≡ L + 1
+  row_long = ap length row_is ∙ row_length (L + 1) ws p room
 
--- ---- changes: the row of p is rewritten to ys
+  pub row_counted : (V : ℕ) → Rows P V L ws → length row ≤ get_or row 0 0 → ⊥
+  row_counted V rows past =
+      let e = ap (λ (r : List ℕ). get_or r 0 0) row_is in let l = row_long in omega (arith, (rows.each p starts.place).count)
 
-module _ (P V L p : ℕ) (ws ys after : List ℕ) (place : p < P) (room : p * (L + 1) + (L + 1) ≤ length ws) (long : length ys ≡ L + 1) (same : length after ≡ length ws) (written : after ≡ put_mid (p * (L + 1)) (L + 1) ws ys) (rows : Rows P V L ws) where
+  pub row_found : L ≤ 255 → get_or row 0 0 < length row → Found P L ws p row
+  row_found narrow count =
+      record {
+        place = starts.place;
+        room = room;
+        words = row_is;
+        long = row_long;
+        short = let l = row_long in omega arith;
+        count = count;
+        clause = held_at (codes_at L ws) P p starts.place ∙ ap codes_of (sym row_is);
+      }
+
+-- ---- changes: the words ys are written over the row of p, which are the w words from a on
+
+-- zeros
+module _ (P L p a w : ℕ) (ws ys : List ℕ) (starts : Starts P (L + 1) (length ws) p a) (wide : w ≡ L + 1) (zeros : ys ≡ replicate (length (take (a + w - a) (drop a ws))) 0) where
+  long : length ys ≡ length (take (a + w - a) (drop a ws))
+  long = ap length zeros ∙ length-replicate _ 0
+
+  row_zeros : ys ≡ replicate (L + 1) 0
+  row_zeros = zeros ∙ ap (λ (n : ℕ). replicate n 0) (sym long ∙ row_wide P L p a w ws ys starts wide long)
+
+  pub wiped_zero : row_at (L + 1) (put_mid a (a + w - a) ws ys) p ≡ replicate (L + 1) 0
+  wiped_zero = row_here P L p a w ws ys starts wide long ∙ row_zeros
+
+  pub wiped_spare : drop (used P L) (put_mid a (a + w - a) ws ys) ≡ drop (used P L) ws
+  wiped_spare = spare_kept P L p a w ws ys starts wide long
+
+  pub wiped_became : (V : ℕ) → Rows P V L ws → Became (Rows P V L (put_mid a (a + w - a) ws ys)) (rows_view P V L (put_mid a (a + w - a) ws ys)) (after_wipe (rows_view P V L ws) p)
+  wiped_became V rows =
+      record {
+        fine = rows_changed P L p a w ws ys starts wide long V rows (subst (Row V L) (sym row_zeros) (zeros_row V L (L + 1)));
+        view = ap (with_held (rows_view P V L ws))
+            (held_changed P L p a w ws ys starts wide long ∙ ap (set (held_in P L ws) p) (ap codes_of row_zeros ∙ zeros_codes (L + 1)));
+      }
+
+-- a code more
+module _ (P V L p a w : ℕ) (ws ys : List ℕ) (starts : Starts P (L + 1) (length ws) p a) (wide : w ≡ L + 1) (long : length ys ≡ length (take (a + w - a) (drop a ws))) (rows : Rows P V L ws) where
   abbrev before : View
   before = rows_view P V L ws
 
-  pub wiped_became : ys ≡ replicate (L + 1) 0 → Became (Rows P V L after) (rows_view P V L after) (after_wipe before p)
-  wiped_became zeros =
-      record {
-        fine = rows_changed P L p ws ys after place room long written V rows same (subst (Row V L) (sym zeros) (zeros_row V L (L + 1)));
-        view = ap (with_held before) (held_changed P L p ws ys after place room long written ∙ ap (set (held_in P L ws) p) (ap codes_of zeros ∙ zeros_codes (L + 1)));
-      }
+  abbrev after : List ℕ
+  after = put_mid a (a + w - a) ws ys
 
-  module _ (row : List ℕ) (c : ℕ) (was : row ≡ row_at (L + 1) ws p) (free : get_or row 0 0 + 1 < length row) (fits : length row ≡ L + 1) (count : get_or ys 0 0 ≡ get_or row 0 0 + 1) (codes : codes_of ys ≡ put c (codes_of row)) (beyond : (j : ℕ) → get_or row 0 0 + 1 < j → get_or ys j 0 ≡ get_or row j 0) (answer : Ok tt ≡ added before p c) where
+  module _ (row : List ℕ) (c k : ℕ) (cut : row ≡ take (a + w - a) (drop a ws)) (gap : Gap row c k) (count : get_or ys 0 0 ≡ get_or row 0 0 + 1) (codes : codes_of ys ≡ insert (codes_of row) k c) (beyond : (j : ℕ) → get_or row 0 0 + 1 < j → get_or ys j 0 ≡ get_or row j 0) (answer : Ok tt ≡ added before p c) where
+    was : row ≡ row_at (L + 1) ws p
+    was = cut ∙ part_row (L + 1) w p a ws wide starts.at
+
     ok : is_ok (added before p c) ≡ true
     ok = ap is_ok (sym answer)
 
     clause_was : clause before p ≡ codes_of row
-    clause_was = held_at P L ws p place ∙ ap codes_of (sym was)
-
-    codes_put : codes_of ys ≡ put c (clause before p)
-    codes_put = codes ∙ ap (put c) (sym clause_was)
+    clause_was = held_at (codes_at L ws) P p starts.place ∙ ap codes_of (sym was)
 
     row_was : Row V L row
-    row_was = subst (Row V L) (sym was) (rows.each p place)
+    row_was = subst (Row V L) (sym was) (rows.each p starts.place)
 
-    row_is : Row V L ys
-    row_is =
+    codes_put : codes_of ys ≡ put c (codes_of row)
+    codes_put = codes ∙ sym (gap.goes V row_was.rises)
+
+    row_after : Row V L ys
+    row_after =
         let t = added_ok before p c ok in
+        let l : length row ≡ L + 1 = ap length was ∙ row_length (L + 1) ws p (omega (arith, starts.at, starts.room)) in
         record {
-          count = omega arith;
-          rises = subst (Rising V 0) (sym codes) (rising_put V 0 c (codes_of row) row_was.rises t.0 t.1 (subst (λ (cs : List ℕ). stands (c / 2) cs ≡ false) clause_was t.2));
+          count = omega (arith, gap.room);
+          rises = subst (Rising V 0) (sym codes_put) (rising_put V 0 c (codes_of row) row_was.rises t.0 t.1 (subst (λ (cs : List ℕ). stands (c / 2) cs ≡ false) clause_was t.2));
           blank = λ j h. beyond j (omega arith) ∙ row_was.blank j (omega arith);
         }
 
     pub added_became : Became (Rows P V L after) (rows_view P V L after) (after_add before p c)
     added_became =
         record {
-          fine = rows_changed P L p ws ys after place room long written V rows same row_is;
+          fine = rows_changed P L p a w ws ys starts wide long V rows row_after;
           view = ap (with_held before)
-              (held_changed P L p ws ys after place room long written
-              ∙ ap (set (held_in P L ws) p) codes_put
+              (held_changed P L p a w ws ys starts wide long
+              ∙ ap (set (held_in P L ws) p) (codes_put ∙ ap (put c) (sym clause_was))
               ∙ sym (cond-true (is_ok (added before p c)) (set (held_in P L ws) p (put c (clause before p))) (held_in P L ws) ok));
         }

@@ -7,8 +7,8 @@ use Rattle.std.proofs.lemmas.Bool.{cases_lt}
 use Rattle.shelf.specs.Literals.{Rising}
 use Rattle.shelf.specs.View.{View, clause}
 use Rattle.rows.specs.Laws.{FreeIsZero, OneWriting}
-use Rattle.rows.specs.Rows.{codes_of, row_at, Row, used}
-use Rattle.rows.specs.Soundness.{held_at}
+use Rattle.rows.specs.Rows.{codes_at, codes_of, row_at, Row, used}
+use Rattle.shelf.specs.Holding.{held_at}
 use Rattle.rows.proofs.Rowing.{codes_length, codes_getD, codes_none, row_length, row_getD, row_fits}
 
 pub repeats_at : {A : Type 0} (d : A) (n k : ℕ) → get_or (replicate n d) k d ≡ d
@@ -55,7 +55,7 @@ same_rows V L row other lr lo r o e =
 pub free_is_zero : FreeIsZero
 free_is_zero P V L ws r p h e =
     same_rows V L (row_at (L + 1) ws p) (replicate (L + 1) 0) (row_length (L + 1) ws p (row_fits r p h)) (length-replicate (L + 1) 0) (r.each p h) (zeros_row V L (L + 1))
-    (sym (held_at P L ws p h) ∙ e ∙ sym (zeros_codes (L + 1)))
+    (sym (held_at (codes_at L ws) P p h) ∙ e ∙ sym (zeros_codes (L + 1)))
 
 pub one_writing : OneWriting
 one_writing P V L ws us r s e =
@@ -64,7 +64,7 @@ one_writing P V L ws us r s e =
     let lu : length (take (used P L) us) ≡ used P L = length-take-le (used P L) us s.room in
     let rows : (p : ℕ) → p < P → row_at w ws p ≡ row_at w us p = λ p h.
     same_rows V L (row_at w ws p) (row_at w us p) (row_length w ws p (row_fits r p h)) (row_length w us p (row_fits s p h)) (r.each p h) (s.each p h)
-    (sym (held_at P L ws p h) ∙ ap (λ (v : View). clause v p) e ∙ held_at P L us p h) in
+    (sym (held_at (codes_at L ws) P p h) ∙ ap (λ (v : View). clause v p) e ∙ held_at (codes_at L us) P p h) in
     ext_get_or 0 (take (used P L) ws) (take (used P L) us) (lw ∙ sym lu)
     (λ k h.
     let lt : k < used P L = omega arith in

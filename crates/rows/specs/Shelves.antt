@@ -11,8 +11,10 @@
 --                of words, or is not there
 use Rattle.std.specs.Prelude.{◌≡◌, ℕ, ◌+◌, List, length, take, drop, replicate}
 use Rattle.rows.specs.declared.RowShelf.{RowShelf}
+use Rattle.shelf.specs.Memory.{Starts}
+use Rattle.shelf.specs.Room.{Lacks}
 use Rattle.shelf.specs.View.{View}
-use Rattle.rows.specs.Finding.{Found, Lacks, Starts}
+use Rattle.rows.specs.Finding.{Found}
 use Rattle.rows.specs.Made.{made_view}
 use Rattle.rows.specs.Rows.{Rows, row_at, rows_view, used}
 
@@ -38,10 +40,10 @@ abbrev pub row_of : RowShelf → ℕ → List ℕ
 row_of s p = row_at (s.longest + 1) (words_of s) p
 
 abbrev pub StartsAt : RowShelf → ℕ → ℕ → Type 0
-StartsAt s p at = Starts s.places s.longest (words_of s) p at
+StartsAt s p at = Starts s.places (s.longest + 1) (length (words_of s)) p at
 
 abbrev pub Finds : RowShelf → ℕ → List ℕ → Type 0
 Finds s p row = Found s.places s.longest (words_of s) p row
 
 abbrev pub Misses : RowShelf → ℕ → Type 0
-Misses s p = Lacks s.places s.longest (words_of s) p
+Misses s p = Lacks (meaning s) p

@@ -1,10 +1,12 @@
 // A shelf over lent words of 32 bits, L + 1 words for each place. Every call asks
 // all its questions before it writes, and tests a place's words before it reads
 // them, so it is safe on every value and a refused call leaves the shelf equal.
+// `wipe` reads as the mask shelf's, and `start` and `clear` nearly so: each is a few
+// lines, and its clauses speak of this shelf's own words.
 
 #![tactic(auto)]
 
-ghost use Rattle.std.specs.Prelude.{◌≡◌, ◌+◌, ◌≤◌, length, replicate, IfOk, Some, None, Ok, Err, OnOk};
+ghost use Rattle.std.specs.Prelude.{◌≡◌, ◌+◌, ◌≤◌, length, replicate, IfOk, MatchOption, Ok, Err, OnErr, OnOk};
 ghost use Rattle.shelf.specs.Telling.{granted, lone_answer, told};
 ghost use Rattle.shelf.specs.Answers.{Became, Did, numbered, added, after_add, wiped, after_wipe};
 ghost use Rattle.rows.specs.Laws.{FreeIsZero, OneWriting};
@@ -13,7 +15,9 @@ ghost use Rattle.rows.specs.Finding.{Gap};
 ghost use Rattle.rows.specs.Shelves.{Finds, Fresh, Misses, StartsAt, in_order, meaning, row_of, spare, words_of};
 ghost use Rattle.rows.specs.Soundness.{sound_rows};
 
+use row::Row;
 use shelf::literal::Literal;
+use shelf::memory::place_start;
 use shelf::refusal::Refusal;
 use shelf::store::Shelf;
 
@@ -25,6 +29,7 @@ mod tests;
 // to the longest. The rest of the words, past the last place's, is spare.
 #[derive(Drop)]
 pub struct RowShelf<'a> {
+    // Lent, so that the caller decides about memory and the bench allocates nothing.
     words: &'a mut [u32],
     places: u16,
     highest: u16,
@@ -32,11 +37,13 @@ pub struct RowShelf<'a> {
 }
 
 impl<'a> RowShelf<'a> {
-    // A shelf with every place free; where a limit is not kept, one with no place.
+    // A shelf with every place free; where a limit is not kept, one with no place. Words and
+    // limits are three parameters here and in what calls this: the shelf is the struct that
+    // they are put together in, and one of the two limits alone would be made to be taken apart.
     pub fn new(words: &'a mut [u32], highest: usize, longest: usize) -> RowShelf<'a>
         ensures { Fresh result words.old highest longest }
     {
-        if highest < 1 || highest > 65535 || longest < 1 || longest > 255 {
+        if !(1..=65535).contains(&highest) || !(1..=255).contains(&longest) {
             return RowShelf {
                 words,
                 places: 0,
@@ -44,6 +51,7 @@ impl<'a> RowShelf<'a> {
                 longest: 1,
             };
         }
+        // no `try_from`: after a match on two of them the proof has no name for what they gave
         RowShelf::cleared(words, highest as u16, longest as u8)
     }
 
@@ -53,9 +61,9 @@ impl<'a> RowShelf<'a> {
         requires longest { 1 ≤ longest }
         ensures { Fresh result words.old highest longest }
     {
-        let width = longest as usize + 1;
+        let width = usize::from(longest) + 1;
         let places = (words.len() / width).min(65535);
-        words[0..places * width].fill(0);
+        words[..places * width].fill(0);
         RowShelf {
             words,
             places: places as u16,
@@ -66,52 +74,39 @@ impl<'a> RowShelf<'a> {
 }
 
 impl RowShelf<'_> {
+    // How many words each place has.
+    fn width(&self) -> usize
+        ensures { result ≡ self.now.longest + 1 }
+    {
+        1 + usize::from(self.longest)
+    }
+
     // Where the row of a place begins, unless there is no such row.
     fn start(&self, place: usize) -> Option<usize>
-        ensures { elim result [ None ↦ (in_order self.now → Misses self.now place) | Some at ↦ StartsAt self.now place at ] }
+        ensures { MatchOption result (in_order self.now → Misses self.now place) (λ at. StartsAt self.now place at) }
     {
-        if place >= self.places as usize {
-            return None;
-        }
-        let width = self.longest as usize + 1;
-        let at = place * width;
-        if at + width > self.words.len() {
-            return None;
-        }
-        Some(at)
+        place_start(place, self.places, self.width(), self.words.len())
     }
 
     // The row of a place, unless there is none or its count passes its end.
-    fn row(&self, place: usize) -> Option<&[u32]>
-        ensures { elim result [ None ↦ (in_order self.now → Misses self.now place) | Some row ↦ Finds self.now place row.now ] }
+    fn row(&self, place: usize) -> Option<Row<'_>>
+        ensures { MatchOption result (in_order self.now → Misses self.now place) (λ row. Finds self.now place row.words.now) }
     {
-        match self.start(place) {
-            None => None,
-            Some(at) => {
-                let width = self.longest as usize + 1;
-                if self.words[at] as usize >= width {
-                    return None;
-                }
-                Some(&self.words[at..at + width])
-            }
-        }
+        let at = self.start(place)?;
+        Row::over(&self.words[at..at + self.width()])
     }
 
-    // Where among a place's codes a literal may go in: all that adding it asks.
+    // Where among a place's codes a literal may go in: all that adding it asks. That it may is
+    // a clause and no type: it is so of these words, and no longer once it is put in.
     fn gap(&self, place: usize, literal: Literal) -> Result<usize, Refusal>
         ensures answer { in_order self.now → granted result ≡ added (meaning self.now) place literal.code }
         ensures gap { IfOk result (λ k. Finds self.now place (row_of self.now place) × Gap (row_of self.now place) literal.code k) }
     {
-        match self.row(place) {
-            None => Err(Refusal::NoSuchPlace),
-            Some(row) => {
-                let variable = literal.variable();
-                if variable < 1 || variable > self.highest as u32 {
-                    return Err(Refusal::NoSuchVariable);
-                }
-                row::gap(row, literal)
-            }
+        let row = self.row(place).ok_or(Refusal::NoSuchPlace)?;
+        if !(1..=u32::from(self.highest)).contains(&literal.variable()) {
+            return Err(Refusal::NoSuchVariable);
         }
+        row.gap(literal)
     }
 
     // Puts a literal in at a gap of the row of a place.
@@ -121,7 +116,7 @@ impl RowShelf<'_> {
         ensures became { in_order self.old → Ok tt ≡ added (meaning self.old) place literal.code → Became (in_order self.new) (meaning self.new) (after_add (meaning self.old) place literal.code) }
         ensures spare { spare self.new ≡ spare self.old }
     {
-        let width = self.longest as usize + 1;
+        let width = self.width();
         let at = place * width;
         row::slip(&mut self.words[at..at + width], k, literal);
     }
@@ -133,8 +128,8 @@ impl RowShelf<'_> {
         ensures spare { spare self.new ≡ spare self.old }
         ensures zero { row_of self.new place ≡ replicate (self.new.longest + 1) 0 }
     {
-        let width = self.longest as usize + 1;
-        self.words[at..at + width].fill(0);
+        let end = at + self.width();
+        self.words[at..end].fill(0);
     }
 }
 
@@ -162,38 +157,27 @@ impl<'a> Shelf for RowShelf<'a> {
 
     // The count of the row, or 0 where there is none.
     fn size(&self, place: usize) -> usize {
-        match self.row(place) {
-            None => 0,
-            Some(row) => row[0] as usize,
-        }
+        self.row(place).map_or(0, |row| row.codes().len())
     }
 
     // The k-th code of the row, or 0 past the count.
     fn literal(&self, place: usize, k: usize) -> Literal {
-        match self.row(place) {
-            None => Literal { code: 0 },
-            Some(row) => {
-                if k >= row[0] as usize {
-                    return Literal { code: 0 };
-                }
-                Literal { code: row[k + 1] }
-            }
+        let code = self.row(place).and_then(|row| row.codes().get(k).copied());
+        Literal {
+            code: code.unwrap_or(0),
         }
     }
 
     // Whether the literal is in the row.
     #[tactic(auto, unfolding(shelf::specs::Literals::among))]
     fn holds(&self, place: usize, literal: Literal) -> bool {
-        match self.row(place) {
-            None => false,
-            Some(row) => row::has(row, literal),
-        }
+        self.row(place).is_some_and(|row| row.has(literal))
     }
 
     // Asks all, and only then writes the row.
     fn add(&mut self, place: usize, literal: Literal) -> Result<(), Refusal>
         ensures did { in_order self.old → Did (in_order self.new) (numbered result) (added (meaning self.old) place literal.code) (meaning self.new) (after_add (meaning self.old) place literal.code) }
-        ensures refused { elim result [ Ok u ↦ Unit {0} | Err e ↦ self.new ≡ self.old ] }
+        ensures refused { OnErr result (self.new ≡ self.old) }
         ensures spare { spare self.new ≡ spare self.old }
     {
         let k = self.gap(place, literal)?;
@@ -204,27 +188,21 @@ impl<'a> Shelf for RowShelf<'a> {
     // Zeroes every word of the row.
     fn wipe(&mut self, place: usize) -> Result<(), Refusal>
         ensures did { in_order self.old → Did (in_order self.new) (numbered result) (wiped (meaning self.old) place) (meaning self.new) (after_wipe (meaning self.old) place) }
-        ensures refused { elim result [ Ok u ↦ Unit {0} | Err e ↦ self.new ≡ self.old ] }
+        ensures refused { OnErr result (self.new ≡ self.old) }
         ensures spare { spare self.new ≡ spare self.old }
         ensures zero { OnOk result (row_of self.new place ≡ replicate (self.new.longest + 1) 0) }
     {
-        match self.start(place) {
-            None => Err(Refusal::NoSuchPlace),
-            Some(at) => {
-                self.clear(place, at);
-                Ok(())
-            }
-        }
+        let at = self.start(place).ok_or(Refusal::NoSuchPlace)?;
+        self.clear(place, at);
+        Ok(())
     }
 }
 
 // Rows in order leave nothing in memory but what they mean.
-pub fn rows_stand() -> u8
+pub fn rows_stand()
     ensures free { FreeIsZero }
     ensures same { OneWriting }
-{
-    0
-}
+{}
 
 // Makes a shelf over the words, adds one literal at place 0, and tells its size.
 pub fn lone_literal(
@@ -236,6 +214,5 @@ pub fn lone_literal(
     ensures { told result ≡ lone_answer (made_view (length words.old) highest longest) literal.code }
 {
     let mut shelf = RowShelf::new(words, highest, longest);
-    shelf.add(0, literal)?;
-    Ok(shelf.size(0))
+    shelf::places::lone_literal(&mut shelf, literal)
 }

@@ -1,9 +1,9 @@
 // One row: the words of one place, the count of its literals first, then their
-// codes by rising code, then zeros. Each function here is over a row whose count
-// does not pass its end, which the shelf tests before it lends one.
-ghost use Rattle.std.specs.Prelude.{◌≡◌, ℕ, ◌+◌, ◌-◌, ◌/◌, ◌<◌, ◌≤◌, length, IfOk, slice_index};
+// codes by rising code, then zeros.
+ghost use Rattle.std.specs.Prelude.{◌≡◌, ℕ, ◌+◌, ◌-◌, ◌/◌, ◌<◌, ◌≤◌, length, IfErr, IfOk, MatchOption, MatchResult, is_ok, slice_index};
+ghost use Rattle.std.specs.List.{insert};
 ghost use Rattle.shelf.specs.Answers.{fitted};
-ghost use Rattle.shelf.specs.Literals.{Rising, among, put};
+ghost use Rattle.shelf.specs.Literals.{Rising, among, put, stands, variable as variable_of};
 ghost use Rattle.rows.specs.Finding.{Gap};
 ghost use Rattle.shelf.specs.Telling.{granted};
 ghost use Rattle.rows.specs.Rows.{codes_of};
@@ -11,60 +11,72 @@ ghost use Rattle.rows.specs.Rows.{codes_of};
 use shelf::literal::Literal;
 use shelf::refusal::Refusal;
 
-// Whether the row has the literal.
-pub(crate) fn has(row: &[u32], literal: Literal) -> bool
-    requires { slice_index row.now 0 < length row.now }
-    ensures { result ≡ among literal.code (codes_of row.now) }
-{
-    let count = row[0] as usize;
-    for k in 0..count {
-        if row[k + 1] == literal.code {
-            return true;
+// The words of one place, of which the count does not pass the end.
+#[derive(Clone, Copy)]
+pub(crate) struct Row<'a> {
+    pub(crate) words: &'a [u32],
+    ghost counted: { slice_index words.now 0 < length words.now },
+}
+
+impl<'a> Row<'a> {
+    // The row in these words, unless its count passes their end.
+    pub(crate) fn over(words: &'a [u32]) -> Option<Row<'a>>
+        ensures { MatchOption result (length words.now ≤ slice_index words.now 0) (λ row. row.words.now ≡ words.now) }
+    {
+        if *words.first()? as usize >= words.len() {
+            return None;
+        }
+        Some(Row { words })
+    }
+
+    // The codes, as many as the count says.
+    #[tactic(auto, unfolding(crate::specs::Rows::codes_of))]
+    pub(crate) fn codes(&self) -> &'a [u32]
+        ensures codes { result.now ≡ codes_of self.now.words.now }
+        ensures count { length result.now ≡ slice_index self.now.words.now 0 }
+    {
+        &self.words[1..self.words[0] as usize + 1]
+    }
+
+    // Whether the row has the literal.
+    #[tactic(auto, using(crate::proofs::Puts::among_any))]
+    pub(crate) fn has(&self, literal: Literal) -> bool
+        ensures { result ≡ among literal.code (codes_of self.now.words.now) }
+    {
+        self.codes().contains(&literal.code)
+    }
+
+    // Where a code of the literal's variable stands, or else where the literal goes in.
+    fn search(&self, literal: Literal) -> Result<usize, usize>
+        ensures within { let cs = codes_of self.now.words.now in MatchResult result (λ k. k < length cs) (λ k. k ≤ length cs) }
+        ensures found { let cs = codes_of self.now.words.now in IfOk result (λ k. variable_of (slice_index cs k) ≡ variable_of literal.code) }
+        ensures stands { let cs = codes_of self.now.words.now in (V : ℕ) → Rising V 0 cs → is_ok result ≡ stands (variable_of literal.code) cs }
+        ensures goes { let cs = codes_of self.now.words.now in (V : ℕ) → Rising V 0 cs → IfErr result (λ k. put literal.code cs ≡ insert cs k literal.code) }
+    {
+        self.codes()
+            .binary_search_by_key(&literal.variable(), |&code| Literal { code }.variable())
+    }
+
+    // Where among the row's codes, from 0, the literal may go in.
+    pub(crate) fn gap(&self, literal: Literal) -> Result<usize, Refusal>
+        ensures answer { (V : ℕ) → Rising V 0 (codes_of self.now.words.now) → granted result ≡ fitted (length self.now.words.now - 1) (codes_of self.now.words.now) literal.code }
+        ensures gap { IfOk result (λ k. Gap self.now.words.now literal.code k) }
+    {
+        match self.search(literal) {
+            Ok(_) => Err(Refusal::VariableStands),
+            Err(_) if self.codes().len() + 1 == self.words.len() => Err(Refusal::ClauseFull),
+            Err(k) => Ok(k),
         }
     }
-    false
 }
 
-// How many of the row's variables are below a variable.
-fn below(row: &[u32], variable: u32) -> usize
-    requires { slice_index row.now 0 < length row.now }
-    ensures within { result ≤ slice_index row.now 0 }
-    ensures before { (k : ℕ) → k < result → slice_index row.now (k + 1) / 2 < variable }
-    ensures after { result < slice_index row.now 0 → variable ≤ slice_index row.now (result + 1) / 2 }
-{
-    let count = row[0] as usize;
-    for k in 0..count {
-        if row[k + 1] / 2 >= variable {
-            return k;
-        }
-    }
-    count
-}
-
-// Where among the row's codes, from 0, the literal may go in.
-pub(crate) fn gap(row: &[u32], literal: Literal) -> Result<usize, Refusal>
-    requires { slice_index row.now 0 < length row.now }
-    ensures answer { (V : ℕ) → Rising V 0 (codes_of row.now) → granted result ≡ fitted (length row.now - 1) (codes_of row.now) literal.code }
-    ensures gap { IfOk result (λ k. Gap row.now literal.code k) }
-{
-    let count = row[0] as usize;
-    let variable = literal.variable();
-    let k = below(row, variable);
-    if k < count && row[k + 1] / 2 == variable {
-        return Err(Refusal::VariableStands);
-    }
-    if count + 1 == row.len() {
-        return Err(Refusal::ClauseFull);
-    }
-    Ok(k)
-}
-
-// Puts the literal in at the gap k, and moves the codes from there on up by one.
+// Puts the literal in at the gap k, and moves the codes from there on up by one. Over
+// the words themselves, since a `Row` only reads them.
 pub(crate) fn slip(row: &mut [u32], k: usize, literal: Literal)
     requires gap { Gap row.old literal.code k }
     requires short { length row.old ≤ 256 }
     ensures count { slice_index row.new 0 ≡ slice_index row.old 0 + 1 }
-    ensures codes { codes_of row.new ≡ put literal.code (codes_of row.old) }
+    ensures codes { codes_of row.new ≡ insert (codes_of row.old) k literal.code }
     ensures beyond { (j : ℕ) → slice_index row.old 0 + 1 < j → slice_index row.new j ≡ slice_index row.old j }
 {
     let count = row[0] as usize;

@@ -1,10 +1,10 @@
 -- What a granted `add` tells, and one literal added to a shelf with every place free.
-use Rattle.std.proofs.Common.{◌≡◌, ℕ, zero, suc, ◌/◌, ◌≤◌, Bool, true, false, cond, ◌&&◌, ltb, leb, List, [], length, get_or, set, replicate, is_ok, Ok, Err, Result, sym, refl, ap, ◌∙◌, arith}
+use Rattle.std.proofs.Common.{◌≡◌, ℕ, zero, suc, ◌/◌, ◌≤◌, Bool, true, false, cond, ◌&&◌, ltb, leb, List, [], length, get_or, set, replicate, is_ok, Ok, Err, Result, refl, ap, ◌∙◌, arith}
 use Rattle.std.proofs.lemmas.List.{get_or-set_same, length-replicate}
 use Rattle.std.proofs.lemmas.Bool.{both_ways, cond-true, ltb-true, leb-true, and_parts}
 use Rattle.shelf.specs.Answers.{added, after_add, fitted}
 use Rattle.shelf.specs.Literals.{put, stands}
-use Rattle.shelf.specs.Telling.{lone_answer, once}
+use Rattle.shelf.specs.Telling.{answer_with, lone_answer, once, size_then}
 use Rattle.shelf.specs.View.{View, clause}
 
 ok_then : (b : Bool) (r : Result (Unit {0}) ℕ) (n : ℕ) → is_ok (cond b r (Err n)) ≡ true → (b ≡ true) × (is_ok r ≡ true)
@@ -38,14 +38,14 @@ freed_first : (P : ℕ) → get_or {A = List ℕ} (replicate P []) 0 [] ≡ []
 freed_first zero = refl
 freed_first (suc P) = refl
 
--- v is what the new shelf is to mean, u what it means, and w what it means after the
--- literal came
-pub lone_told : (v : View) (c size : ℕ) (u w : View) → v.held ≡ replicate v.places [] → u ≡ v → Ok tt ≡ added u 0 c → w ≡ after_add u 0 c → size ≡ length (clause w 0) → Ok size ≡ lone_answer v c
-lone_told v c size u w free made answer after counted =
-    let ok : Ok tt ≡ added v 0 c = answer ∙ ap (λ (x : View). added x 0 c) made in
-    let count : length v.held ≡ v.places = ap length free ∙ length-replicate v.places [] in
+-- on a shelf with every place free the size is 1
+pub lone_then : (v : View) (c : ℕ) → v.held ≡ replicate v.places [] → size_then v c ≡ lone_answer v c
+unfolding size_then
+lone_then v c free =
     let none_there : clause v 0 ≡ [] = ap (λ (h : List (List ℕ)). get_or h 0 []) free ∙ freed_first v.places in
-    let one : size ≡ 1 = counted
-    ∙ ap (λ (x : View). length (clause x 0)) (after ∙ ap (λ (x : View). after_add x 0 c) made)
-    ∙ lone_size v c count none_there (ap is_ok (sym ok)) in
-    ap (λ (n : ℕ). Ok n) one ∙ ap once ok
+    let one = lone_size v c (ap length free ∙ length-replicate v.places []) none_there in
+    answered (added v 0 c) (length (clause (after_add v 0 c) 0)) one
+  where
+    answered : (r : Result (Unit {0}) ℕ) (n : ℕ) → (is_ok r ≡ true → n ≡ 1) → answer_with n r ≡ once r
+    answered (Ok u) n h = ap (λ k. Ok k) (h refl)
+    answered (Err e) n h = refl

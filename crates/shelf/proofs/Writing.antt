@@ -1,8 +1,9 @@
 -- A clause written code by code: after k codes the place holds the first k of them.
 -- A run of free places is asked about one place at a time.
-use Rattle.std.proofs.Common.{◌≡◌, ℕ, suc, ◌+◌, ◌-◌, ◌/◌, ◌<◌, ◌≤◌, Bool, true, false, cond, not, ◌&&◌, eqb, ltb, List, [], ◌∷◌, ◌++◌, length, get_or, take, drop, set, is_ok, Ok, Result, sym, refl, ap, ◌∙◌, inl, inr, arith}
-use Rattle.std.proofs.lemmas.List.{get_or-set_same, set-set, set-get_or, take_more, take_all, take-append-drop, drop_more, drop_all, length-take-le, nil_from_length, get_or_past}
+use Rattle.std.proofs.Common.{◌≡◌, ℕ, zero, suc, ◌+◌, ◌/◌, ◌<◌, ◌≤◌, true, false, cond, not, ◌&&◌, eqb, ltb, List, [], ◌∷◌, ◌++◌, length, get_or, take, drop, set, is_ok, Ok, Result, sym, refl, ap, ap₂, ◌∙◌, inl, inr, arith}
+use Rattle.std.proofs.lemmas.List.{get_or-set_same, set-set, set-get_or, take_more, take_all, take-append-drop, drop_more, drop_all, length-take-le, get_or_past}
 use Rattle.std.proofs.lemmas.Bool.{ltb-true, lt-ltb, le-ltb, le-leb, ne_eqb, or_from, and_parts, and_from, and_left, and_right, cases_lt}
+use Rattle.std.specs.List.{list_all, range_with_len}
 use Rattle.shelf.specs.Literals.{Rising, put, stands, none}
 use Rattle.shelf.specs.View.{View, Sound, with_held, clause}
 use Rattle.shelf.specs.Room.{Writable, filled, vacant, roomy}
@@ -69,33 +70,27 @@ part_more {v = v} {p = p} {cs = cs} {k = k} {w = w} {w' = w'} s a h e f =
 pub part_done : (v : View) (p : ℕ) (cs : List ℕ) {k : ℕ} {w : View} → w ≡ part v p cs k → length cs ≤ k → w ≡ with_held v (set v.held p cs)
 part_done v p cs {k = k} e h = e ∙ ap (λ (z : List ℕ). with_held v (set v.held p z)) (take_all k cs h)
 
--- the rest of a run of places
-pub roomy_more : (v : View) (p n k : ℕ) {t : Bool} → roomy v p (n - k) ≡ t → k < n → p < v.places → length (clause v p) ≡ 0 → roomy v (p + 1) (n - (k + 1)) ≡ t
+-- a run of places, asked about at once
+no_codes : (cs : List ℕ) → eqb (length cs) 0 ≡ none cs
+no_codes [] = refl
+no_codes (c ∷ cs) = grind arith
+
+free_here : (v : View) (p : ℕ) → p < v.places → eqb (length (clause v p)) 0 ≡ vacant v p
+free_here v p h = no_codes (clause v p) ∙ ap (λ b. b && none (clause v p)) (sym (lt-ltb p v.places h))
+
+pub roomy_all : (v : View) (p n : ℕ) → p + n ≤ v.places → list_all (λ q. eqb (length (clause v q)) 0) (range_with_len p n) ≡ roomy v p n
 unfolding roomy
-roomy_more v p n k h l a b =
-    let i : n - k ≡ suc (n - (k + 1)) = omega arith in
-    let o : vacant v p ≡ true = and_from (ltb p v.places) (none (clause v p)) (lt-ltb p v.places a) (ap none (nil_from_length (clause v p) b)) in
-    ap (λ (s : Bool). s && roomy v (p + 1) (n - (k + 1))) (sym o) ∙ ap (roomy v p) (sym i) ∙ h
+roomy_all v p zero h = refl
+roomy_all v p (suc n) h = ap₂ (λ a b. a && b) (free_here v p (omega arith)) (roomy_all v (p + 1) n (omega arith))
 
-empty_not : (cs : List ℕ) → (length cs ≡ 0 → ⊥) → none cs ≡ false
-empty_not [] h = elim (h refl) [ ]
-empty_not (c ∷ cs) h = refl
-
-pub roomy_stop : (v : View) (p n k : ℕ) {t : Bool} → roomy v p (n - k) ≡ t → k < n → vacant v p ≡ false → false ≡ t
+pub roomy_none : (v : View) (p n : ℕ) → v.places < p + n → 0 < n → roomy v p n ≡ false
 unfolding roomy
-roomy_stop v p n k h l o =
-    let i : n - k ≡ suc (n - (k + 1)) = omega arith in
-    ap (λ (s : Bool). s && roomy v (p + 1) (n - (k + 1))) (sym o) ∙ ap (roomy v p) (sym i) ∙ h
-
-pub past_not : (v : View) (p : ℕ) → v.places ≤ p → vacant v p ≡ false
-past_not v p h = and_left (ltb p v.places) (none (clause v p)) (le-ltb p v.places h)
-
-pub taken_not : (v : View) (p : ℕ) → (length (clause v p) ≡ 0 → ⊥) → vacant v p ≡ false
-taken_not v p h = and_right (ltb p v.places) (none (clause v p)) (empty_not (clause v p) h)
-
-pub roomy_done : (v : View) (p n k : ℕ) {t : Bool} → roomy v p (n - k) ≡ t → n ≤ k → true ≡ t
-unfolding roomy
-roomy_done v p n k h l = let i : n - k ≡ 0 = omega arith in ap (roomy v p) (sym i) ∙ h
+roomy_none v p zero h l = absurd (omega arith)
+roomy_none v p (suc n) h l =
+    elim (cases_lt p v.places) [
+      | inl i ↦ and_right (vacant v p) (roomy v (p + 1) n) (roomy_none v (p + 1) n (omega arith) (omega arith))
+      | inr i ↦ and_left (vacant v p) (roomy v (p + 1) n) (and_left (ltb p v.places) (none (clause v p)) (le-ltb p v.places i))
+    ]
 
 has_codes : (v : View) (p n : ℕ) → ltb p v.places ≡ true → (cs : List ℕ) → n ≡ length cs → not (eqb n 0) ≡ (ltb p v.places && not (none cs))
 has_codes v p n h [] e = ap (λ (k : ℕ). not (eqb k 0)) e ∙ sym (and_right (ltb p v.places) false refl)

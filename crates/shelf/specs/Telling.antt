@@ -3,12 +3,16 @@
 --   granted       a result that tells of its value only that it is there
 --   told          a result with its refusal told by number
 --   once          an answer with 1 for what was granted
+--   answer_with n r   the number n where r grants, and else the refusal of r
+--   size_then v c     what adding the code c to place 0 of a shelf that means v, and
+--                     asking for the size there, tells: the size, or the number of
+--                     the refusal
 --   lone_answer   what adding one code to place 0 of a shelf with every place free, and
 --                 asking for the size there, tells: the size, 1, or the refusal's number
-use Rattle.std.specs.Prelude.{ℕ, Ok, Err, Result}
+use Rattle.std.specs.Prelude.{ℕ, length, Ok, Err, Result}
 use Rattle.shelf.specs.declared.refusal.Refusal.{Refusal}
-use Rattle.shelf.specs.Answers.{added, number_of}
-use Rattle.shelf.specs.View.{View}
+use Rattle.shelf.specs.Answers.{added, after_add, number_of}
+use Rattle.shelf.specs.View.{View, clause}
 
 abbrev pub granted : Result ℕ Refusal → Result (Unit {0}) ℕ
 granted (Ok k) = Ok tt
@@ -24,3 +28,10 @@ once (Err e) = Err e
 
 abbrev pub lone_answer : View → ℕ → Result ℕ ℕ
 lone_answer v c = once (added v 0 c)
+
+abbrev pub answer_with : ℕ → Result (Unit {0}) ℕ → Result ℕ ℕ
+answer_with n (Ok u) = Ok n
+answer_with n (Err e) = Err e
+
+unfoldable pub size_then : View → ℕ → Result ℕ ℕ
+size_then v c = answer_with (length (clause (after_add v 0 c) 0)) (added v 0 c)

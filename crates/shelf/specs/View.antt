@@ -6,8 +6,9 @@
 --   clause     the codes at a place; none past the last place
 --   with_held  the same view with other clauses
 --   emptied    the same view with every place free
+--   emptied_below n   the same view with the places below n free
 --   Sound      what every shelf keeps of its view
-use Rattle.std.specs.Prelude.{◌≡◌, ℕ, ◌<◌, ◌≤◌, List, [], length, replicate, slice_index_or}
+use Rattle.std.specs.Prelude.{◌≡◌, ℕ, ◌<◌, ◌≤◌, min, List, [], ◌++◌, length, drop, replicate, slice_index_or}
 use Rattle.shelf.specs.Literals.{Rising}
 
 pub record View : Type 0 where
@@ -25,6 +26,9 @@ with_held v h = record { places = v.places; highest = v.highest; longest = v.lon
 
 abbrev pub emptied : View → View
 emptied v = with_held v (replicate v.places [])
+
+abbrev pub emptied_below : ℕ → View → View
+emptied_below n v = with_held v (replicate (min n v.places) [] ++ drop n v.held)
 
 -- a clause on a shelf: rising codes of variables from 1 to V, at most L of them
 pub record Clause (V L : ℕ) (cs : List ℕ) : Type 0 where

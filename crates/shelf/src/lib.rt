@@ -5,6 +5,8 @@
 #![tactic(auto)]
 
 pub mod literal;
+pub mod memory;
 pub mod places;
+mod printing;
 pub mod refusal;
 pub mod store;

@@ -15,7 +15,7 @@ impl Literal {
         ensures { result.code ≡ 2 * variable }
     {
         Literal {
-            code: 2 * variable as u32,
+            code: 2 * u32::from(variable),
         }
     }
 
@@ -24,7 +24,7 @@ impl Literal {
         ensures { result.code ≡ 2 * variable + 1 }
     {
         Literal {
-            code: 2 * variable as u32 + 1,
+            code: 2 * u32::from(variable) + 1,
         }
     }
 

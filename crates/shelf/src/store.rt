@@ -1,5 +1,5 @@
 // What every shelf offers.
-ghost use Rattle.std.specs.Prelude.{◌≡◌, ℕ, ◌≤◌, List, length, Ok, Err, slice_index};
+ghost use Rattle.std.specs.Prelude.{◌≡◌, ℕ, ◌≤◌, List, length, OnErr, slice_index};
 ghost use Rattle.shelf.specs.Answers.{Did, numbered, added, after_add, wiped, after_wipe};
 ghost use Rattle.shelf.specs.Literals.{among};
 ghost use Rattle.shelf.specs.View.{View, Sound, clause};
@@ -13,6 +13,8 @@ use crate::refusal::Refusal;
 // Questions alter nothing, and a refused call leaves the shelf equal to what it
 // was, contents included.
 pub trait Shelf {
+    // A premise of the clauses and not part of the type, since a layer over any shelf could not
+    // keep it in its own: a ghost field cannot cite a bound's members.
     ghost fine: { Self → Type 0 };
 
     ghost view: { Self → View };
@@ -39,7 +41,8 @@ pub trait Shelf {
         ensures low { result ≤ 255 }
         ensures is { fine self.now → result ≡ length (clause (view self.now) place) };
 
-    // The k-th literal of a place, from 0, by rising code; code 0 past the size.
+    // The k-th literal of a place, from 0, by rising code; code 0 past the size, which is
+    // what the rules have a shelf answer there, and so no Option.
     fn literal(&self, place: usize, k: usize) -> Literal
         ensures { fine self.now → result.code ≡ slice_index (clause (view self.now) place) k };
 
@@ -50,10 +53,10 @@ pub trait Shelf {
     // Puts a literal to a place.
     fn add(&mut self, place: usize, literal: Literal) -> Result<(), Refusal>
         ensures did { fine self.old → Did (fine self.new) (numbered result) (added (view self.old) place literal.code) (view self.new) (after_add (view self.old) place literal.code) }
-        ensures refused { elim result [ Ok u ↦ Unit {0} | Err e ↦ self.new ≡ self.old ] };
+        ensures refused { OnErr result (self.new ≡ self.old) };
 
     // Frees a place.
     fn wipe(&mut self, place: usize) -> Result<(), Refusal>
         ensures did { fine self.old → Did (fine self.new) (numbered result) (wiped (view self.old) place) (view self.new) (after_wipe (view self.old) place) }
-        ensures refused { elim result [ Ok u ↦ Unit {0} | Err e ↦ self.new ≡ self.old ] };
+        ensures refused { OnErr result (self.new ≡ self.old) };
 }

@@ -1,4 +1,3 @@
 pub mod Signing
 pub mod Layers
 pub mod Laws
-pub mod Stacked

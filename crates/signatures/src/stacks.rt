@@ -3,14 +3,14 @@
 // layer.
 ghost use Rattle.std.specs.Prelude.{◌≡◌, min, length};
 ghost use Rattle.rows.specs.Made.{made_places, made_view};
-ghost use Rattle.shelf.specs.Telling.{told};
+ghost use Rattle.shelf.specs.Telling.{size_then, told};
 ghost use Rattle.shelf.specs.View.{emptied};
 ghost use Rattle.signatures.specs.Layers.{layered};
-ghost use Rattle.signatures.specs.Stacked.{size_then};
 
 use crate::SignatureLayer;
 use rows::RowShelf;
 use shelf::literal::Literal;
+use shelf::places::lone_literal;
 use shelf::refusal::Refusal;
 use shelf::store::Shelf;
 
@@ -22,15 +22,7 @@ pub fn place_count_on_rows(words: &mut [u32], highest: usize, longest: usize) ->
     layer.place_count()
 }
 
-// Adds one literal at place 0, and tells the size there.
-fn lone_literal<S: Shelf>(shelf: &mut S, literal: Literal) -> Result<usize, Refusal>
-    ensures { S.fine shelf.old → told result ≡ size_then (S.view shelf.old) literal.code }
-{
-    shelf.add(0, literal)?;
-    Ok(shelf.size(0))
-}
-
-// The same through a layer over rows.
+// Adds one literal at place 0 of a layer over rows, and tells the size there.
 pub fn lone_literal_on_rows(
     words: &mut [u32],
     highest: usize,
@@ -43,7 +35,8 @@ pub fn lone_literal_on_rows(
     lone_literal(&mut layer, literal)
 }
 
-// The same through a layer over a layer over rows.
+// The same through a layer over a layer over rows. Two callers of one line, each there for a
+// contract with no premise at its own type.
 pub fn lone_literal_on_layers(
     words: &mut [u32],
     highest: usize,

@@ -11,6 +11,7 @@ use shelf::literal::Literal;
 use shelf::refusal::Refusal;
 use shelf::store::Shelf;
 use std::cell::Cell;
+use std::test::Fail;
 
 // Rows that count how often they are asked whether they hold a literal.
 #[derive(Drop)]
@@ -66,118 +67,83 @@ impl<'a> Shelf for Counting<'a> {
     }
 }
 
-// The number of a refusal, or 0.
-fn told(r: Result<(), Refusal>) -> u8 {
-    match r {
-        Ok(()) => 0,
-        Err(e) => e.number(),
-    }
-}
-
 #[test]
-fn a_bit_that_is_not_set_spares_the_question(rt: HostRuntime) {
+fn a_bit_that_is_not_set_spares_the_question(rt: HostRuntime) -> Result<(), Fail> {
     let mut words = [0u32; 8];
     let rows = RowShelf::new(&mut words, 100, 3);
     let mut layer = SignatureLayer::new(Counting {
         rows,
         asked: Cell::new(0),
     });
-    assert_eq!(rt; told(layer.add(1, Literal::of(1))), 0);
-    assert_eq!(rt; layer.holds(1, Literal::of(2)), false);
-    assert_eq!(rt; layer.holds(0, Literal::of(1)), false);
+    layer.add(1, Literal::of(1))?;
+    assert!(rt; !layer.holds(1, Literal::of(2)));
+    assert!(rt; !layer.holds(0, Literal::of(1)));
     assert_eq!(rt; layer.below.times_asked(), 0);
-    assert_eq!(rt; layer.holds(1, Literal::of(33)), false);
+    assert!(rt; !layer.holds(1, Literal::of(33)));
     assert_eq!(rt; layer.below.times_asked(), 1);
-    assert_eq!(rt; layer.holds(1, Literal::of(1)), true);
+    assert!(rt; layer.holds(1, Literal::of(1)));
     assert_eq!(rt; layer.below.times_asked(), 2);
+    Ok(())
 }
 
 #[test]
-fn literals_share_a_bit_and_a_wipe_clears_it(rt: HostRuntime) {
+fn literals_share_a_bit_and_a_wipe_clears_it(rt: HostRuntime) -> Result<(), Fail> {
     let mut words = [0u32; 4];
     let mut layer = SignatureLayer::new(RowShelf::new(&mut words, 100, 3));
-    let _ = layer.add(0, Literal::of(1));
-    let _ = layer.add(0, Literal::of(33));
-    assert_eq!(rt;
-        [layer.literal(0, 0).code, layer.literal(0, 1).code],
-        [2, 66]
-    );
-    assert_eq!(rt;
-        [
-            layer.holds(0, Literal::of(1)),
-            layer.holds(0, Literal::of(33)),
-            layer.holds(0, Literal::of(65)),
-        ],
-        [true, true, false]
-    );
-    assert_eq!(rt; told(layer.wipe(0)), 0);
-    assert_eq!(rt;
-        [
-            layer.holds(0, Literal::of(1)),
-            layer.holds(0, Literal::of(33)),
-        ],
-        [false, false]
-    );
+    layer.add(0, Literal::of(1))?;
+    layer.add(0, Literal::of(33))?;
+    assert_eq!(rt; layer.literal(0, 0).code, 2);
+    assert_eq!(rt; layer.literal(0, 1).code, 66);
+    assert!(rt; layer.holds(0, Literal::of(1)));
+    assert!(rt; layer.holds(0, Literal::of(33)));
+    assert!(rt; !layer.holds(0, Literal::of(65)));
+    layer.wipe(0)?;
+    assert!(rt; !layer.holds(0, Literal::of(1)));
+    assert!(rt; !layer.holds(0, Literal::of(33)));
+    Ok(())
 }
 
 #[test]
-fn places_past_the_layer_stay(rt: HostRuntime) {
+fn places_past_the_layer_stay(rt: HostRuntime) -> Result<(), Fail> {
     let mut words = [0u32; 8194];
     let mut rows = RowShelf::new(&mut words, 4, 1);
-    let _ = rows.add(4095, Literal::of(1));
-    let _ = rows.add(4096, Literal::not(3));
+    rows.add(4095, Literal::of(1))?;
+    rows.add(4096, Literal::not(3))?;
     let mut layer = SignatureLayer::new(rows);
-    assert_eq!(rt;
-        [layer.place_count(), layer.size(4095), layer.size(4096)],
-        [4096, 0, 0]
-    );
+    assert_eq!(rt; layer.place_count(), 4096);
+    assert_eq!(rt; (layer.size(4095), layer.size(4096)), (0, 0));
     assert_eq!(rt; layer.literal(4096, 0).code, 0);
-    assert_eq!(rt; layer.holds(4096, Literal::not(3)), false);
+    assert!(rt; !layer.holds(4096, Literal::not(3)));
     assert_eq!(rt;
-        [
-            told(layer.add(4096, Literal::of(1))),
-            told(layer.wipe(4096)),
-            told(layer.add(4095, Literal::of(2))),
-        ],
-        [81, 81, 0]
+        layer.add(4096, Literal::of(1)).map_err(Refusal::number),
+        Err(81)
     );
+    assert_eq!(rt; layer.wipe(4096).map_err(Refusal::number), Err(81));
+    layer.add(4095, Literal::of(2))?;
     let rows = layer.into_below();
-    assert_eq!(rt;
-        [rows.literal(4095, 0).code, rows.literal(4096, 0).code],
-        [4, 7]
-    );
+    assert_eq!(rt; rows.literal(4095, 0).code, 4);
+    assert_eq!(rt; rows.literal(4096, 0).code, 7);
+    Ok(())
 }
 
 #[test]
-fn a_layer_over_a_layer(rt: HostRuntime) {
+fn a_layer_over_a_layer(rt: HostRuntime) -> Result<(), Fail> {
     let mut words = [7u32; 8];
     {
         let layer = SignatureLayer::new(RowShelf::new(&mut words, 4, 3));
         let mut upper = SignatureLayer::new(layer);
-        assert_eq!(rt; told(upper.add(1, Literal::not(4))), 0);
-        assert_eq!(rt;
-            [
-                upper.holds(1, Literal::not(4)),
-                upper.holds(1, Literal::of(4)),
-            ],
-            [true, false]
-        );
-        assert_eq!(rt;
-            [
-                upper.place_count(),
-                upper.highest_variable(),
-                upper.longest_clause(),
-            ],
-            [2, 4, 3]
-        );
+        upper.add(1, Literal::not(4))?;
+        assert!(rt; upper.holds(1, Literal::not(4)));
+        assert!(rt; !upper.holds(1, Literal::of(4)));
+        assert_eq!(rt; upper.place_count(), 2);
+        assert_eq!(rt; upper.highest_variable(), 4);
+        assert_eq!(rt; upper.longest_clause(), 3);
     }
     assert_eq!(rt; words, [0, 0, 0, 0, 1, 9, 0, 0]);
     assert_eq!(rt;
-        lone_literal_on_rows(&mut words, 4, 3, Literal::of(2)).ok(),
-        Some(1)
+        lone_literal_on_rows(&mut words, 4, 3, Literal::of(2)),
+        Ok(1)
     );
-    assert_eq!(rt;
-        lone_literal_on_layers(&mut words, 4, 3, Literal::of(5)).ok(),
-        None
-    );
+    assert!(rt; lone_literal_on_layers(&mut words, 4, 3, Literal::of(5)).is_err());
+    Ok(())
 }

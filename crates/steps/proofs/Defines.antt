@@ -1,10 +1,12 @@
 -- The verdict on a define, and that a granted one may be done.
-use Rattle.std.proofs.Common.{◌≡◌, ℕ, ◌+◌, ◌<◌, ◌≤◌, Bool, true, false, not, ◌&&◌, ltb, List, [], ◌∷◌, length, sym, refl, ap, ◌∙◌, inl, inr, arith}
-use Rattle.std.proofs.lemmas.Bool.{lt-ltb, ltb-true, and_left, and_from, and_parts, cases_lt}
+use Rattle.std.proofs.Common.{◌≡◌, ℕ, ◌+◌, ◌<◌, ◌≤◌, Bool, true, false, not, ◌&&◌, eqb, ltb, List, [], ◌∷◌, length, sym, refl, ap, ◌∙◌, inl, inr, arith}
+use Rattle.std.proofs.lemmas.Bool.{both_ways, eq-eqb, lt-ltb, ltb-true, and_left, and_from, and_parts, cases_lt}
 use Rattle.shelf.specs.Literals.{Rising, stands, none}
 use Rattle.shelf.specs.Room.{roomy}
 use Rattle.shelf.specs.View.{View}
-use Rattle.clauses.proofs.Turns.{rising}
+use Rattle.shelf.specs.declared.literal.Literal.{Literal}
+use Rattle.clauses.proofs.Turns.{codes_length, rising}
+use Rattle.clauses.specs.Codes.{codes}
 use Rattle.results.specs.Definition.{Definable}
 use Rattle.results.specs.Placing.{Placeable}
 use Rattle.results.proofs.Defined.{kept_defining, short_defining, long_defining}
@@ -45,7 +47,7 @@ module _ (v : View) (n to : ℕ) (ls : List ℕ) where
     next : n + 1 ≤ v.highest
     new : stands (n + 1) ls ≡ false
 
-  pub fitted : (length ls ≡ 0 → ⊥) → true ≡ rises (known n v) 0 ls → n < v.highest → fits ≡ true
+  fitted : (length ls ≡ 0 → ⊥) → true ≡ rises (known n v) 0 ls → n < v.highest → fits ≡ true
   fitted h e l =
       and_from (not (none ls)) (rises (known n v) 0 ls && ltb n v.highest) (some_codes ls h) (and_from (rises (known n v) 0 ls) (ltb n v.highest) (sym e) (lt-ltb n v.highest l))
 
@@ -100,3 +102,8 @@ module _ (v : View) (n to : ℕ) (ls : List ℕ) where
       let s : length ls + 1 ≤ v.longest =
       elim (cases_lt v.longest (length ls + 1)) [ inl k ↦ let c : true ≡ false = sym q₁₁.0 ∙ long_here q₁₀.0 k in absurd (let o : ◌≡◌ {A = ℕ} 0 1 = cc in omega arith) | inr k ↦ k ] in
       (record { rises = z.climbs; some = omega arith; known = z.next; new = z.new; short = s }, record { fits = q₁₁.0; room = q₁₂.0 })
+
+-- by what the code tests
+pub fits_tested : (v : View) (n to : ℕ) (literals : List Literal) {b : Bool} {top : ℕ} → b ≡ eqb (length literals) 0 → b ≡ false → true ≡ rises top 0 (codes literals) → top ≡ known n v → n < v.highest → fits v n to (codes literals) ≡ true
+fits_tested v n to literals e f r t l =
+    fitted v n to (codes literals) (λ z. both_ways _ f (e ∙ eq-eqb _ 0 (sym (codes_length literals) ∙ z))) (r ∙ ap (λ (i : ℕ). rises i 0 (codes literals)) t) l

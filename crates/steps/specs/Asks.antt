@@ -3,7 +3,7 @@
 -- step is asked first they are the questions of the rules.
 --
 --   X_asks        those of the step X
-use Rattle.std.specs.Prelude.{ℕ, ◌+◌, Bool, not, ◌&&◌, List, [], ◌∷◌, ◌++◌, length, ℤ, Option, nat_le, nat_lt, ◌==◌}
+use Rattle.std.specs.Prelude.{ℕ, ◌+◌, not, ◌&&◌, List, [], ◌∷◌, ◌++◌, ℤ, Option, nat_le, nat_lt, ◌==◌}
 use Rattle.cost.specs.Reach.{Scale}
 use Rattle.shelf.specs.Literals.{none, stands}
 use Rattle.shelf.specs.Room.{filled, roomy}

@@ -11,7 +11,7 @@ ghost use Rattle.rules.specs.Questions.{first_no, passes};
 ghost use Rattle.rules.specs.Results.{alike, defining, kept, laid};
 ghost use Rattle.steps.specs.Asks.{define_asks};
 
-use clauses::given::{known_variables, literals_rise};
+use clauses::given::{known_variables, rises};
 use cost::kind::CostKind;
 use faults::fault::Fault;
 use ledger::cell::Cell;
@@ -20,45 +20,49 @@ use shelf::literal::Literal;
 use shelf::places::has_room;
 use shelf::store::Shelf;
 
-// What a define is asked: there is a literal, the variables rise up to the current
-// number, there is a next variable, and its clauses are short enough and have room
-// from `to` on; the next variable.
-pub fn ask_define<S: Shelf>(
-    shelf: &S,
-    current: u16,
-    to: usize,
-    literals: &[Literal],
-) -> Result<u16, Fault>
-    ensures is { S.fine shelf.now → verdict_told result ≡ first_no (define_asks (S.view shelf.now) current to (codes_of literals.now)) }
-    ensures next { IfOk result (λ d. d ≡ current + 1) }
-{
-    if literals.len() == 0 {
-        return Err(Fault::DefinitionUnfit);
-    }
-    if !literals_rise(literals, known_variables(shelf, current)) {
-        return Err(Fault::DefinitionUnfit);
-    }
-    if current as usize >= shelf.highest_variable() {
-        return Err(Fault::DefinitionUnfit);
-    }
-    if literals.len() >= shelf.longest_clause() {
-        return Err(Fault::ResultTooLong);
-    }
-    if !has_room(shelf, to, literals.len() + 1) {
-        return Err(Fault::NoRoom);
-    }
-    Ok(current + 1)
+// Where the clauses go from, and the literals of which one must be true for the next
+// variable to be.
+#[derive(Clone, Copy)]
+pub struct Define<'a> {
+    pub to: usize,
+    pub literals: &'a [Literal],
 }
 
-// Places the clauses that define the variable from `to` on, as was granted.
-pub fn define<K: CostKind, S: Shelf>(
-    shelf: &mut S,
-    ledger: &mut [Cell<K::Row>],
-    variable: u16,
-    to: usize,
-    literals: &[Literal],
-)
-    ensures { S.fine shelf.old → (n : ℕ) → variable ≡ n + 1 → passes ≡ first_no (define_asks (S.view shelf.old) n to (codes_of literals.now)) → Laid (S.fine shelf.new) (S.view shelf.new) (after_placing (S.view shelf.old) to (defining (n + 1) (codes_of literals.now))) (cells_of K.kind ledger.new) (laid to (alike hard (kept (defining (n + 1) (codes_of literals.now)))) (cells_of K.kind ledger.old)) }
-{
-    place_define(shelf, ledger, variable, literals, to, Cell::Hard);
+impl Define<'_> {
+    // What a define is asked: there is a literal, the variables rise up to the current
+    // number, there is a next variable, and its clauses are short enough and have room;
+    // the next variable.
+    pub fn ask<S: Shelf>(&self, shelf: &S, current: u16) -> Result<u16, Fault>
+        ensures is { S.fine shelf.now → verdict_told result ≡ first_no (define_asks (S.view shelf.now) current self.now.to (codes_of self.now.literals.now)) }
+        ensures next { IfOk result (λ d. d ≡ current + 1) }
+    {
+        if self.literals.is_empty() {
+            return Err(Fault::DefinitionUnfit);
+        }
+        if !rises(self.literals, known_variables(shelf, current)) {
+            return Err(Fault::DefinitionUnfit);
+        }
+        if usize::from(current) >= shelf.highest_variable() {
+            return Err(Fault::DefinitionUnfit);
+        }
+        if self.literals.len() >= shelf.longest_clause() {
+            return Err(Fault::ResultTooLong);
+        }
+        if !has_room(shelf, self.to, self.literals.len() + 1) {
+            return Err(Fault::NoRoom);
+        }
+        Ok(current + 1)
+    }
+
+    // Places the clauses that define the variable, as was granted.
+    pub fn make<K: CostKind, S: Shelf>(
+        &self,
+        shelf: &mut S,
+        ledger: &mut [Cell<K::Row>],
+        variable: u16,
+    )
+        ensures { S.fine shelf.old → (n : ℕ) → variable ≡ n + 1 → passes ≡ first_no (define_asks (S.view shelf.old) n self.now.to (codes_of self.now.literals.now)) → Laid (S.fine shelf.new) (S.view shelf.new) (after_placing (S.view shelf.old) self.now.to (defining (n + 1) (codes_of self.now.literals.now))) (cells_of K.kind ledger.new) (laid self.now.to (alike hard (kept (defining (n + 1) (codes_of self.now.literals.now)))) (cells_of K.kind ledger.old)) }
+    {
+        place_define(shelf, ledger, variable, self.literals, self.to, Cell::Hard);
+    }
 }

@@ -29,16 +29,12 @@ pub fn ask_harden<K: CostKind, S: Shelf>(
     if !is_filled(shelf, i) {
         return Err(Fault::SourceUnfit);
     }
-    match read_cell::<K>(ledger, i) {
-        Cell::Hard => Err(Fault::AlreadyHard),
-        Cell::Soft(amount) => match shown {
-            None => Err(Fault::NoPlanShown),
-            Some(cost) => {
-                if !K::exceeds(proved, amount, cost) {
-                    return Err(Fault::NotDearer);
-                }
-                Ok(())
-            }
-        },
+    let Cell::Soft(amount) = read_cell::<K>(ledger, i) else {
+        return Err(Fault::AlreadyHard);
+    };
+    let cost = shown.ok_or(Fault::NoPlanShown)?;
+    if !K::exceeds(proved, amount, cost) {
+        return Err(Fault::NotDearer);
     }
+    Ok(())
 }

@@ -2,6 +2,11 @@
 // yet. Each step has two parts: the first puts its questions from 9 on, in their
 // order, and changes nothing; the second does the step, and is exact where the
 // first granted it.
+//
+// Shelf and ledger stay two parameters of both parts. The questions of a split and of a
+// define read the shelf alone, those of the other steps read both, and each `make` changes
+// both: a struct of the two loans would be made anew for each call, and its clauses would
+// speak of `self.shelf` and `self.cells` at two moments.
 
 #![tactic(auto)]
 

@@ -1,84 +1,66 @@
-// How a call is told: what was asked, what was answered, and the proved cost so far.
+// Calls of a bench that are told: what was asked, what was answered, and the proved cost so
+// far. A desk makes them, and the functions here print them. They take a bench and no desk, for
+// a caller that holds a bench alone.
 
 #![tactic(auto)]
 
+use crate::wording::{AtCost, Bill};
 use bench::case::Bench;
 use cost::amounts::Slots;
-use cost::kind::CostKind;
 use faults::fault::Fault;
+use std::fmt::Display;
 use std::io;
 
-// Prints the figures of an amount.
-fn print_amount(rt: &HostRuntime, amount: Slots) -> io::Result<()> {
-    let slots = Slots::figure(amount, 1);
-    let minutes = Slots::figure(amount, 2);
-    let unit = if slots == 1 { "slot" } else { "slots" };
-    print!(rt; "{slots} {unit} {minutes} minutes")
-}
+pub mod desk;
+mod wording;
 
-// Prints the end of a call's lines: the proved cost so far.
-fn print_proved(rt: &HostRuntime, bench: &Bench<Slots>) -> io::Result<()> {
-    print!(rt; "    proved so far: ")?;
-    print_amount(rt, bench.proved())?;
-    println!(rt; "")
-}
-
-// Prints a refusal.
-fn print_refusal(rt: &HostRuntime, fault: Fault) -> io::Result<()> {
-    let question = fault.number();
-    println!(rt; "    refused by question {question}: {fault:?}")
+// Prints a call by what was asked, and what was granted, or which question refused it. A match,
+// since each arm prints in words of its own.
+fn tell_answer<A: Display + Drop, G: Display + Drop>(
+    rt: &HostRuntime,
+    asked: A,
+    answer: Result<G, Fault>,
+    bench: &Bench<Slots>,
+) -> io::Result<()> {
+    println!(rt; "{asked}")?;
+    match answer {
+        Ok(granted) => println!(rt; "    {granted}")?,
+        Err(fault) => println!(rt; "    refused by question {}: {fault:?}", fault.number())?,
+    }
+    println!(rt; "    proved so far: {}", bench.proved())
 }
 
 // Prints a call that answers only that it is granted.
-pub fn tell(
+pub fn tell<A: Display + Drop>(
     rt: &HostRuntime,
-    asked: &str,
+    asked: A,
     answer: Result<(), Fault>,
     bench: &Bench<Slots>,
 ) -> io::Result<()> {
-    println!(rt; "{asked}")?;
-    match answer {
-        Ok(()) => println!(rt; "    granted")?,
-        Err(fault) => print_refusal(rt, fault)?,
-    }
-    print_proved(rt, bench)
+    tell_answer(rt, asked, answer.map(|_| "granted"), bench)
 }
 
 // Prints what a show answered.
-pub fn tell_shown(
+pub fn tell_shown<A: Display + Drop>(
     rt: &HostRuntime,
-    asked: &str,
+    asked: A,
     answer: Result<(Slots, usize), Fault>,
     bench: &Bench<Slots>,
 ) -> io::Result<()> {
-    println!(rt; "{asked}")?;
-    match answer {
-        Ok(shown) => {
-            let unmet = shown.1;
-            print!(rt; "    costs ")?;
-            print_amount(rt, shown.0)?;
-            println!(rt; ", soft clauses unmet: {unmet}")?;
-        }
-        Err(fault) => print_refusal(rt, fault)?,
-    }
-    print_proved(rt, bench)
+    tell_answer(
+        rt,
+        asked,
+        answer.map(|(cost, unmet)| Bill { cost, unmet }),
+        bench,
+    )
 }
 
 // Prints what a claim of cheapest answered.
-pub fn tell_claim(
+pub fn tell_claim<A: Display + Drop>(
     rt: &HostRuntime,
-    asked: &str,
+    asked: A,
     answer: Result<Slots, Fault>,
     bench: &Bench<Slots>,
 ) -> io::Result<()> {
-    println!(rt; "{asked}")?;
-    match answer {
-        Ok(cost) => {
-            print!(rt; "    granted: the shown plan is cheapest, at ")?;
-            print_amount(rt, cost)?;
-            println!(rt; "")?;
-        }
-        Err(fault) => print_refusal(rt, fault)?,
-    }
-    print_proved(rt, bench)
+    tell_answer(rt, asked, answer.map(AtCost), bench)
 }

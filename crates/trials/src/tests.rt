@@ -1,4 +1,5 @@
-// Each trial makes a shelf, a ledger and a bench, and compares answers.
+// Each trial makes a shelf, a ledger and a bench, and compares answers. Shelf and ledger are
+// passed to each call, as a caller of the bench passes them.
 use bench::case::Bench;
 use cost::amounts::{Minutes, MinutesRow, Slots, SlotsRow};
 use cost::kind::CostKind;
@@ -10,20 +11,20 @@ use shelf::literal::Literal;
 use shelf::store::Shelf;
 use std::test::Fail;
 
-// 0 for a grant, else the number of the refusal.
-fn told(answer: Result<(), Fault>) -> u8 {
-    match answer {
-        Ok(()) => 0,
-        Err(fault) => fault.number(),
-    }
+// An answer, with a refusal by its number, as the rules name it. A function, since a call with
+// a `map_err` of its own would take five lines, 24 times.
+fn told<T>(answer: Result<T, Fault>) -> Result<T, u8> {
+    answer.map_err(Fault::number)
 }
 
-// The minutes of a claim, or the number of its refusal, negative.
-fn claimed(answer: Result<Minutes, Fault>) -> i64 {
-    match answer {
-        Ok(cost) => Minutes::figure(cost, 1),
-        Err(fault) => -i64::from(fault.number()),
-    }
+// The minutes of a claim, with a refusal by its number.
+fn claimed(answer: Result<Minutes, Fault>) -> Result<i64, u8> {
+    told(answer.map(|cost| Minutes::figure(cost, 1)))
+}
+
+// The figures of an amount in slots.
+fn figures(amount: Slots) -> (i64, i64) {
+    (Slots::figure(amount, 1), Slots::figure(amount, 2))
 }
 
 #[test]
@@ -32,58 +33,38 @@ fn reach(rt: HostRuntime) {
     let mut ledger = [row_cell::<Minutes>(Cell::Hard); 3];
     let mut shelf = RowShelf::new(&mut words, 1, 1);
     let mut bench = Bench::<Minutes>::new();
-    assert_eq!(rt; told(bench.open(&mut shelf, &mut ledger, 2)), 3);
-    assert_eq!(rt; told(bench.open(&mut shelf, &mut ledger, 1)), 0);
-    assert_eq!(rt;
-        told(bench.soft(
-            &mut shelf,
-            &mut ledger,
-            0,
-            &[1_000_000_000_001],
-            &[Literal::of(1)],
-        )),
-        6
-    );
-    assert_eq!(rt;
-        told(bench.soft(
-            &mut shelf,
-            &mut ledger,
-            0,
-            &[1_000_000_000_000],
-            &[Literal::of(1)],
-        )),
-        0
-    );
-    assert_eq!(rt;
-        told(bench.soft(&mut shelf, &mut ledger, 1, &[1], &[Literal::not(1)])),
-        6
-    );
-    assert_eq!(rt;
-        told(bench.soft(&mut shelf, &mut ledger, 0, &[1], &[Literal::not(1)])),
-        5
-    );
-    assert_eq!(rt;
-        told(bench.soft(&mut shelf, &mut ledger, 1, &[1], &[Literal::of(2)])),
-        4
-    );
+    assert_eq!(rt; told(bench.open(&mut shelf, &mut ledger, 2)), Err(3));
+    assert_eq!(rt; told(bench.open(&mut shelf, &mut ledger, 1)), Ok(()));
+    for (place, minutes, literal, answer) in [
+        (0, 1_000_000_000_001, Literal::of(1), Err(6)),
+        (0, 1_000_000_000_000, Literal::of(1), Ok(())),
+        (1, 1, Literal::not(1), Err(6)),
+        (0, 1, Literal::not(1), Err(5)),
+        (1, 1, Literal::of(2), Err(4)),
+    ] {
+        let answered = told(bench.soft(&mut shelf, &mut ledger, place, &[minutes], &[literal]));
+        assert_eq!(rt; answered, answer, "{literal:?} with {minutes} at {place}");
+    }
 }
 
 #[test]
-fn no_variables(rt: HostRuntime) {
+fn no_variables(rt: HostRuntime) -> Result<(), Fail> {
     let mut words = [7u32; 2];
     let mut ledger = [row_cell::<Minutes>(Cell::Hard); 1];
     let mut shelf = RowShelf::new(&mut words, 1, 1);
     let mut bench = Bench::<Minutes>::new();
-    assert_eq!(rt; told(bench.open(&mut shelf, &mut ledger, 0)), 0);
-    assert_eq!(rt; told(bench.soft(&mut shelf, &mut ledger, 9, &[5], &[])), 0);
-    assert_eq!(rt; told(bench.seal(&shelf, &ledger)), 0);
-    assert_eq!(rt; claimed(bench.cheapest(&shelf, &ledger)), -14);
-    match bench.show(&shelf, &ledger, &[]) {
-        Ok(shown) => assert_eq!(rt; (Minutes::figure(shown.0, 1), shown.1), (5, 0)),
-        Err(fault) => assert_eq!(rt; fault.number(), 0),
-    }
-    assert_eq!(rt; claimed(bench.cheapest(&shelf, &ledger)), 5);
-    assert_eq!(rt; told(bench.seal(&shelf, &ledger)), 2);
+    assert_eq!(rt; told(bench.open(&mut shelf, &mut ledger, 0)), Ok(()));
+    assert_eq!(rt;
+        told(bench.soft(&mut shelf, &mut ledger, 9, &[5], &[])),
+        Ok(())
+    );
+    assert_eq!(rt; told(bench.seal(&shelf, &ledger)), Ok(()));
+    assert_eq!(rt; claimed(bench.cheapest(&shelf, &ledger)), Err(14));
+    let (cost, unmet) = bench.show(&shelf, &ledger, &[])?;
+    assert_eq!(rt; (Minutes::figure(cost, 1), unmet), (5, 0));
+    assert_eq!(rt; claimed(bench.cheapest(&shelf, &ledger)), Ok(5));
+    assert_eq!(rt; told(bench.seal(&shelf, &ledger)), Err(2));
+    Ok(())
 }
 
 #[test]
@@ -92,7 +73,7 @@ fn used_up(rt: HostRuntime) {
     let mut ledger = [row_cell::<Minutes>(Cell::Hard); 4];
     let mut shelf = RowShelf::new(&mut words, 2, 3);
     let mut bench = Bench::<Minutes>::new();
-    assert_eq!(rt; told(bench.open(&mut shelf, &mut ledger, 2)), 0);
+    assert_eq!(rt; told(bench.open(&mut shelf, &mut ledger, 2)), Ok(()));
     assert_eq!(rt;
         told(bench.soft(
             &mut shelf,
@@ -101,7 +82,7 @@ fn used_up(rt: HostRuntime) {
             &[1],
             &[Literal::of(1), Literal::of(2)],
         )),
-        0
+        Ok(())
     );
     assert_eq!(rt;
         told(bench.soft(
@@ -111,21 +92,27 @@ fn used_up(rt: HostRuntime) {
             &[1],
             &[Literal::not(1), Literal::of(2)],
         )),
-        0
+        Ok(())
     );
-    assert_eq!(rt; told(bench.seal(&shelf, &ledger)), 0);
+    assert_eq!(rt; told(bench.seal(&shelf, &ledger)), Ok(()));
     assert_eq!(rt;
         told(bench.resolve(&mut shelf, &mut ledger, 0, 1, 2, 2)),
-        10
+        Err(10)
     );
     assert_eq!(rt;
         told(bench.resolve(&mut shelf, &mut ledger, 0, 1, 1, 1)),
-        12
+        Err(12)
     );
-    assert_eq!(rt; told(bench.resolve(&mut shelf, &mut ledger, 0, 1, 1, 2)), 0);
+    assert_eq!(rt;
+        told(bench.resolve(&mut shelf, &mut ledger, 0, 1, 1, 2)),
+        Ok(())
+    );
     assert_eq!(rt; (shelf.size(0), shelf.size(1), shelf.size(2)), (0, 0, 1));
     assert_eq!(rt; shelf.literal(2, 0).code, 4);
-    assert_eq!(rt; told(bench.resolve(&mut shelf, &mut ledger, 0, 2, 1, 3)), 9);
+    assert_eq!(rt;
+        told(bench.resolve(&mut shelf, &mut ledger, 0, 2, 1, 3)),
+        Err(9)
+    );
 }
 
 #[test]
@@ -134,37 +121,30 @@ fn two_tiers(rt: HostRuntime) -> Result<(), Fail> {
     let mut ledger = [row_cell::<Slots>(Cell::Hard); 3];
     let mut shelf = RowShelf::new(&mut words, 1, 1);
     let mut bench = Bench::<Slots>::new();
-    assert_eq!(rt; told(bench.open(&mut shelf, &mut ledger, 1)), 0);
+    assert_eq!(rt; told(bench.open(&mut shelf, &mut ledger, 1)), Ok(()));
     assert_eq!(rt;
         told(bench.soft(&mut shelf, &mut ledger, 0, &[2, 10], &[Literal::of(1)])),
-        0
+        Ok(())
     );
     assert_eq!(rt;
         told(bench.soft(&mut shelf, &mut ledger, 1, &[1, 25], &[Literal::not(1)])),
-        0
+        Ok(())
     );
     assert_eq!(rt;
         told(bench.soft(&mut shelf, &mut ledger, 2, &[1], &[Literal::of(1)])),
-        6
+        Err(6)
     );
-    assert_eq!(rt; told(bench.seal(&shelf, &ledger)), 0);
-    assert_eq!(rt; told(bench.resolve(&mut shelf, &mut ledger, 0, 1, 1, 2)), 0);
-    let proved = bench.proved();
+    assert_eq!(rt; told(bench.seal(&shelf, &ledger)), Ok(()));
     assert_eq!(rt;
-        (Slots::figure(proved, 1), Slots::figure(proved, 2)),
-        (1, 25)
+        told(bench.resolve(&mut shelf, &mut ledger, 0, 1, 1, 2)),
+        Ok(())
     );
-    match ledger[0] {
-        Cell::Hard => {
-            assert!(rt; false);
-            Ok(())
-        },
-        Cell::Soft(row) => {
-            let left = Slots::read(row);
-            assert_eq!(rt; (Slots::figure(left, 1), Slots::figure(left, 2)), (1, -15));
-            Ok(())
-        }
-    }
+    assert_eq!(rt; figures(bench.proved()), (1, 25));
+    let Cell::Soft(row) = ledger[0] else {
+        return Err(Fail::new("the cell of place 0 is hard"));
+    };
+    assert_eq!(rt; figures(Slots::read(row)), (1, -15));
+    Ok(())
 }
 
 #[test]
@@ -173,6 +153,6 @@ fn short_ledger(rt: HostRuntime) {
     let mut ledger = [row_cell::<Slots>(Cell::Hard); 2];
     let mut shelf = RowShelf::new(&mut words, 1, 1);
     let mut bench = Bench::<Slots>::new();
-    assert_eq!(rt; told(bench.open(&mut shelf, &mut ledger, 1)), 1);
-    assert_eq!(rt; told(bench.seal(&shelf, &ledger)), 1);
+    assert_eq!(rt; told(bench.open(&mut shelf, &mut ledger, 1)), Err(1));
+    assert_eq!(rt; told(bench.seal(&shelf, &ledger)), Err(1));
 }

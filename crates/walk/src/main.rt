@@ -8,114 +8,49 @@
 
 #![tactic(auto)]
 
-use bench::case::Bench;
-use cost::amounts::{Slots, SlotsRow};
+use cost::amounts::Slots;
 use ledger::cell::Cell;
 use ledger::cells::row_cell;
 use rows::RowShelf;
 use shelf::literal::Literal;
+use shelf::store::Shelf;
 use std::io;
-use telling::{tell, tell_claim, tell_shown};
+use telling::desk::Desk;
 
 // Opens the case and gives its clauses.
-fn fill(
-    rt: &HostRuntime,
-    bench: &mut Bench<Slots>,
-    shelf: &mut RowShelf,
-    ledger: &mut [Cell<SlotsRow>],
-) -> io::Result<()> {
-    let answer = bench.open(shelf, ledger, 3);
-    tell(rt, "open a case of 3 variables", answer, bench)?;
-    let answer = bench.hard(shelf, ledger, 0, &[Literal::not(2), Literal::of(3)]);
-    tell(
-        rt,
-        "hard at place 0: -2 3 (a parcel that rides along needs the dock)",
-        answer,
-        bench,
+fn fill<S: Shelf>(desk: &mut Desk<'_, S>) -> io::Result<()> {
+    desk.open(3)?;
+    desk.hard(
+        0,
+        &[Literal::not(2), Literal::of(3)],
+        "a parcel that rides along needs the dock",
     )?;
-    let answer = bench.soft(shelf, ledger, 1, &[0, 30], &[Literal::of(1)]);
-    tell(
-        rt,
-        "soft at place 1: 1, else 0 slots 30 minutes (the van runs)",
-        answer,
-        bench,
-    )?;
-    let answer = bench.soft(
-        shelf,
-        ledger,
+    desk.soft(1, &[0, 30], &[Literal::of(1)], "the van runs")?;
+    desk.soft(
         2,
         &[0, 20],
         &[Literal::not(1), Literal::of(2)],
-    );
-    tell(
-        rt,
-        "soft at place 2: -1 2, else 0 slots 20 minutes (the van takes the parcel)",
-        answer,
-        bench,
+        "the van takes the parcel",
     )?;
-    let answer = bench.soft(shelf, ledger, 3, &[1, 0], &[Literal::not(3)]);
-    tell(
-        rt,
-        "soft at place 3: -3, else 1 slot 0 minutes (the dock stays free)",
-        answer,
-        bench,
-    )?;
-    let answer = bench.seal(shelf, ledger);
-    tell(rt, "seal", answer, bench)
+    desk.soft(3, &[1, 0], &[Literal::not(3)], "the dock stays free")?;
+    desk.seal()
 }
 
 // Makes the steps of the log, each a resolve.
-fn resolve_all(
-    rt: &HostRuntime,
-    bench: &mut Bench<Slots>,
-    shelf: &mut RowShelf,
-    ledger: &mut [Cell<SlotsRow>],
-) -> io::Result<()> {
-    let answer = bench.resolve(shelf, ledger, 1, 2, 1, 4);
-    tell(
-        rt,
-        "resolve places 1 and 2 on variable 1, results from place 4",
-        answer,
-        bench,
-    )?;
-    let answer = bench.resolve(shelf, ledger, 4, 0, 2, 6);
-    tell(
-        rt,
-        "resolve places 4 and 0 on variable 2, results from place 6",
-        answer,
-        bench,
-    )?;
-    let answer = bench.resolve(shelf, ledger, 6, 3, 3, 2);
-    tell(
-        rt,
-        "resolve places 6 and 3 on variable 3, results from place 2",
-        answer,
-        bench,
-    )
+fn resolve_all<S: Shelf>(desk: &mut Desk<'_, S>) -> io::Result<()> {
+    desk.resolve(1, 2, 1, 4, "")?;
+    desk.resolve(4, 0, 2, 6, "")?;
+    desk.resolve(6, 3, 3, 2, "")
 }
 
 // Eight places of up to three literals over three variables, and a cell for each.
 fn main(rt: HostRuntime) -> io::Result<()> {
     let mut words = [0u32; 32];
     let mut ledger = [row_cell::<Slots>(Cell::Hard); 8];
-    let mut shelf = RowShelf::new(&mut words, 3, 3);
-    let mut bench = Bench::<Slots>::new();
-    fill(&rt, &mut bench, &mut shelf, &mut ledger)?;
-    let answer = bench.show(&shelf, &ledger, &[1, 0, 0]);
-    tell_shown(
-        &rt,
-        "show the plan 1 0 0 (the van runs without the parcel)",
-        answer,
-        &bench,
-    )?;
-    let answer = bench.cheapest(&shelf, &ledger);
-    tell_claim(
-        &rt,
-        "claim cheapest, before the log has proved it",
-        answer,
-        &bench,
-    )?;
-    resolve_all(&rt, &mut bench, &mut shelf, &mut ledger)?;
-    let answer = bench.cheapest(&shelf, &ledger);
-    tell_claim(&rt, "claim cheapest", answer, &bench)
+    let mut desk = Desk::new(&rt, RowShelf::new(&mut words, 3, 3), &mut ledger);
+    fill(&mut desk)?;
+    desk.show(&[1, 0, 0], "the van runs without the parcel")?;
+    desk.cheapest("before the log has proved it")?;
+    resolve_all(&mut desk)?;
+    desk.cheapest("")
 }

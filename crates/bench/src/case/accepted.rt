@@ -1,9 +1,10 @@
 // What a soft clause comes to, once all its questions are asked.
+use shelf::places::ClauseCodes;
 
-// How many literals it has, its amount, the total with it, and the proved cost.
-#[derive(Clone, Copy)]
+// Its codes, its amount, the total with it, and the proved cost.
+#[derive(Drop)]
 pub(crate) struct Accepted<A> {
-    pub count: usize,
+    pub codes: ClauseCodes,
     pub amount: A,
     pub total: A,
     pub proved: A,

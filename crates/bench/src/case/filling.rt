@@ -1,5 +1,5 @@
 // Filling a case: open, hard, soft and seal.
-ghost use Rattle.std.specs.Prelude.{◌≡◌, ◌≤◌, length, replicate, IfOk, slice_set};
+ghost use Rattle.std.specs.Prelude.{◌≡◌, length, replicate, IfOk, slice_set, OnErr, OnOk};
 ghost use Rattle.clauses.specs.Codes.{codes as codes_of};
 ghost use Rattle.cost.specs.Figures.{zeros};
 ghost use Rattle.cost.specs.Kinds.{Kind};
@@ -7,16 +7,16 @@ ghost use Rattle.ledger.specs.Meaning.{cell_of, cells_of};
 ghost use Rattle.ledger.specs.declared.cell.Cell.TheVariants.{Soft as SoftCell};
 ghost use Rattle.results.specs.Placing.{Laid};
 ghost use Rattle.rules.specs.Case.{idle_case};
-ghost use Rattle.rules.specs.Filling.{open_questions, open_does, clause_questions, hard_does, soft_questions, soft_does, seal_questions, seal_does};
+ghost use Rattle.rules.specs.Filling.{open_questions, open_does, clause_questions, hard_does, soft_questions, soft_does, seal_does};
 ghost use Rattle.rules.specs.Questions.{first_no};
 ghost use Rattle.shelf.specs.Room.{Writable};
 ghost use Rattle.shelf.specs.View.{with_held};
-ghost use Rattle.bench.specs.Asked.{Copied, Accepts};
+ghost use Rattle.bench.specs.Asked.{Accepts};
 ghost use Rattle.faults.specs.Faults.{verdict_told};
-ghost use Rattle.bench.specs.Meaning.{case_of, state_at, granted_told, Done, IfRefused, IfGranted};
+ghost use Rattle.bench.specs.Meaning.{case_of, state_at, granted_told, Done};
 
 use crate::case::accepted::Accepted;
-use crate::case::asking::{is_filling, ledger_is_long_enough, take_clause};
+use crate::case::asking::{ask_state, is_filling, ledger_is_long_enough, take_clause};
 use crate::case::{Bench, Phase};
 use cost::kind::CostKind;
 use faults::fault::Fault;
@@ -25,7 +25,7 @@ use ledger::cell::Cell;
 use ledger::cells::{clear, write_cell};
 use ledger::dues::paid;
 use shelf::literal::Literal;
-use shelf::places::{is_vacant, wipe_all, write_codes};
+use shelf::places::{ClauseCodes, is_vacant, wipe_all, write_codes};
 use shelf::store::Shelf;
 
 // Writes a clause to a free place, and its cell.
@@ -65,14 +65,15 @@ impl<K: CostKind> Bench<K> {
         if !ledger_is_long_enough::<K, S>(shelf, ledger) {
             return Err(Fault::LedgerTooShort);
         }
-        if n as usize > shelf.highest_variable() {
+        if usize::from(n) > shelf.highest_variable() {
             return Err(Fault::TooManyVariables);
         }
         Ok(())
     }
 
     // Drops any earlier case, wipes every place and every cell, and begins a case of n
-    // variables.
+    // variables. That a refused call leaves all three is written out, here and below:
+    // a word for it would take six arguments, old and new of each, and hide which is which.
     pub fn open<S: Shelf>(
         &mut self,
         shelf: &mut S,
@@ -80,8 +81,8 @@ impl<K: CostKind> Bench<K> {
         n: u16,
     ) -> Result<(), Fault>
         ensures did { S.fine shelf.old → Done (S.fine shelf.new) (granted_told result) (state_at K.kind S.view self.new shelf.new ledger.new) (open_does K.kind.scale (state_at K.kind S.view self.old shelf.old ledger.old) n) }
-        ensures refused { IfRefused result ((self.new ≡ self.old) × (shelf.new ≡ shelf.old) × (ledger.new ≡ ledger.old)) }
-        ensures cleared { IfGranted result ((a : K.Amount) → K.kind.figures a ≡ zeros K.kind.scale.tiers → ledger.new ≡ replicate (length ledger.old) (SoftCell (K.kind.row a))) }
+        ensures refused { OnErr result ((self.new ≡ self.old) × (shelf.new ≡ shelf.old) × (ledger.new ≡ ledger.old)) }
+        ensures cleared { OnOk result ((a : K.Amount) → K.kind.figures a ≡ zeros K.kind.scale.tiers → ledger.new ≡ replicate (length ledger.old) (SoftCell (K.kind.row a))) }
     {
         self.ask_open(shelf, ledger, n)?;
         wipe_all(shelf);
@@ -97,35 +98,23 @@ impl<K: CostKind> Bench<K> {
         Ok(())
     }
 
-    // What hard and soft are both asked: the clause's codes, copied to the front of
-    // `out`, and how many they are.
+    // What hard and soft are both asked; the clause's codes.
     fn ask_clause<S: Shelf>(
         &self,
         shelf: &S,
         ledger: &[Cell<K::Row>],
         place: usize,
         clause: &[Literal],
-        out: &mut [u32; 255],
-    ) -> Result<usize, Fault>
-        ensures low { IfOk result (λ m. m ≤ 255) }
+    ) -> Result<ClauseCodes, Fault>
         ensures is { S.fine shelf.now → verdict_told result ≡ first_no (clause_questions (state_at K.kind S.view self.now shelf.now ledger.now) place (codes_of clause.now)) }
-        ensures copied { S.fine shelf.now → Copied out.new (codes_of clause.now) result }
+        ensures copied { S.fine shelf.now → IfOk result (λ codes. codes.items ≡ codes_of clause.now) }
     {
-        if !ledger_is_long_enough::<K, S>(shelf, ledger) {
-            return Err(Fault::LedgerTooShort);
+        ask_state::<K, S>(shelf, ledger, is_filling(self.phase))?;
+        let codes = take_clause(shelf, self.n, clause).ok_or(Fault::ClauseUnfit)?;
+        if !codes.is_empty() && !is_vacant(shelf, place) {
+            return Err(Fault::PlaceUnfit);
         }
-        if !is_filling(self.phase) {
-            return Err(Fault::WrongPhase);
-        }
-        match take_clause(shelf, self.n, clause, out) {
-            None => Err(Fault::ClauseUnfit),
-            Some(count) => {
-                if count != 0 && !is_vacant(shelf, place) {
-                    return Err(Fault::PlaceUnfit);
-                }
-                Ok(count)
-            }
-        }
+        Ok(codes)
     }
 
     // Gives a clause that must be met. An empty one sets the impossible mark and uses
@@ -138,14 +127,13 @@ impl<K: CostKind> Bench<K> {
         clause: &[Literal],
     ) -> Result<(), Fault>
         ensures did { S.fine shelf.old → Done (S.fine shelf.new) (granted_told result) (state_at K.kind S.view self.new shelf.new ledger.new) (hard_does K.kind.scale (state_at K.kind S.view self.old shelf.old ledger.old) place (codes_of clause.now)) }
-        ensures refused { IfRefused result ((self.new ≡ self.old) × (shelf.new ≡ shelf.old) × (ledger.new ≡ ledger.old)) }
+        ensures refused { OnErr result ((self.new ≡ self.old) × (shelf.new ≡ shelf.old) × (ledger.new ≡ ledger.old)) }
     {
-        let mut codes = [0u32; 255];
-        let count = self.ask_clause(shelf, ledger, place, clause, &mut codes)?;
-        if clause.len() == 0 {
+        let codes = self.ask_clause(shelf, ledger, place, clause)?;
+        if clause.is_empty() {
             self.impossible = true;
         } else {
-            put_clause::<K, S>(shelf, ledger, place, &codes[..count], Cell::Hard);
+            put_clause::<K, S>(shelf, ledger, place, &codes, Cell::Hard);
         }
         Ok(())
     }
@@ -157,27 +145,19 @@ impl<K: CostKind> Bench<K> {
         place: usize,
         figures: &[i64],
         clause: &[Literal],
-        out: &mut [u32; 255],
     ) -> Result<Accepted<K::Amount>, Fault>
-        ensures low { IfOk result (λ a. a.count ≤ 255) }
         ensures is { S.fine shelf.now → verdict_told result ≡ first_no (soft_questions K.kind.scale (state_at K.kind S.view self.now shelf.now ledger.now) place figures.now (codes_of clause.now)) }
-        ensures accepted { S.fine shelf.now → Accepts K.kind.figures out.new (codes_of clause.now) figures.now (K.kind.figures self.now.total) (K.kind.figures self.now.proved) result }
+        ensures accepted { S.fine shelf.now → Accepts K.kind.figures (codes_of clause.now) figures.now (K.kind.figures self.now.total) (K.kind.figures self.now.proved) result }
     {
-        let count = self.ask_clause(shelf, ledger, place, clause, out)?;
-        match take_amount::<K>(figures, self.total) {
-            None => Err(Fault::AmountUnfit),
-            Some(taken) => {
-                let amount = taken.0;
-                let total = taken.1;
-                let proved = paid::<K>(self.proved, clause.len() == 0, Cell::Soft(amount))?;
-                Ok(Accepted {
-                    count,
-                    amount,
-                    total,
-                    proved,
-                })
-            }
-        }
+        let codes = self.ask_clause(shelf, ledger, place, clause)?;
+        let (amount, total) = take_amount::<K>(figures, self.total).ok_or(Fault::AmountUnfit)?;
+        let proved = paid::<K>(self.proved, clause.is_empty(), Cell::Soft(amount))?;
+        Ok(Accepted {
+            codes,
+            amount,
+            total,
+            proved,
+        })
     }
 
     // Gives a clause with an amount, by its figures. An empty one adds its amount to
@@ -191,32 +171,19 @@ impl<K: CostKind> Bench<K> {
         clause: &[Literal],
     ) -> Result<(), Fault>
         ensures did { S.fine shelf.old → Done (S.fine shelf.new) (granted_told result) (state_at K.kind S.view self.new shelf.new ledger.new) (soft_does K.kind.scale (state_at K.kind S.view self.old shelf.old ledger.old) place figures.now (codes_of clause.now)) }
-        ensures refused { IfRefused result ((self.new ≡ self.old) × (shelf.new ≡ shelf.old) × (ledger.new ≡ ledger.old)) }
+        ensures refused { OnErr result ((self.new ≡ self.old) × (shelf.new ≡ shelf.old) × (ledger.new ≡ ledger.old)) }
     {
-        let mut codes = [0u32; 255];
-        let accepted = self.ask_soft(shelf, ledger, place, figures, clause, &mut codes)?;
+        let accepted = self.ask_soft(shelf, ledger, place, figures, clause)?;
         self.total = accepted.total;
         self.proved = accepted.proved;
-        if clause.len() != 0 {
+        if !clause.is_empty() {
             put_clause::<K, S>(
                 shelf,
                 ledger,
                 place,
-                &codes[..accepted.count],
+                &accepted.codes,
                 Cell::Soft(accepted.amount),
             );
-        }
-        Ok(())
-    }
-
-    fn ask_seal<S: Shelf>(&self, shelf: &S, ledger: &[Cell<K::Row>]) -> Result<(), Fault>
-        ensures { S.fine shelf.now → verdict_told result ≡ first_no (seal_questions (state_at K.kind S.view self.now shelf.now ledger.now)) }
-    {
-        if !ledger_is_long_enough::<K, S>(shelf, ledger) {
-            return Err(Fault::LedgerTooShort);
-        }
-        if !is_filling(self.phase) {
-            return Err(Fault::WrongPhase);
         }
         Ok(())
     }
@@ -224,9 +191,9 @@ impl<K: CostKind> Bench<K> {
     // Ends filling.
     pub fn seal<S: Shelf>(&mut self, shelf: &S, ledger: &[Cell<K::Row>]) -> Result<(), Fault>
         ensures did { S.fine shelf.now → Done (S.fine shelf.now) (granted_told result) (state_at K.kind S.view self.new shelf.now ledger.now) (seal_does (state_at K.kind S.view self.old shelf.now ledger.now)) }
-        ensures refused { IfRefused result (self.new ≡ self.old) }
+        ensures refused { OnErr result (self.new ≡ self.old) }
     {
-        self.ask_seal(shelf, ledger)?;
+        ask_state::<K, S>(shelf, ledger, is_filling(self.phase))?;
         self.phase = Phase::Sealed;
         Ok(())
     }

@@ -1,15 +1,15 @@
 // Showing a plan.
-ghost use Rattle.std.specs.Prelude.{◌≡◌};
+ghost use Rattle.std.specs.Prelude.{◌≡◌, OnErr};
 ghost use Rattle.cost.specs.Kinds.{Kind};
 ghost use Rattle.ledger.specs.Meaning.{cells_of};
 ghost use Rattle.rules.specs.Questions.{first_no};
 ghost use Rattle.rules.specs.Showing.{owed, show_questions, show_does};
 ghost use Rattle.bench.specs.Asked.{Bills};
 ghost use Rattle.faults.specs.Faults.{verdict_told};
-ghost use Rattle.bench.specs.Meaning.{state_at, shown_told, Done, IfRefused};
+ghost use Rattle.bench.specs.Meaning.{state_at, shown_told, Done};
 
-use crate::case::Bench;
-use crate::case::asking::{is_sealed, ledger_is_long_enough};
+use crate::case::asking::ask_state;
+use crate::case::{Bench, Phase};
 use clauses::plans::is_plan;
 use cost::kind::CostKind;
 use faults::fault::Fault;
@@ -27,13 +27,8 @@ impl<K: CostKind> Bench<K> {
         ensures is { S.fine shelf.now → verdict_told result ≡ first_no (show_questions K.kind.scale (state_at K.kind S.view self.now shelf.now ledger.now) strip.now) }
         ensures bill { S.fine shelf.now → Bills K.kind.figures (K.kind.figures self.now.proved) (owed strip.now (S.view shelf.now).held (cells_of K.kind ledger.now)) result }
     {
-        if !ledger_is_long_enough::<K, S>(shelf, ledger) {
-            return Err(Fault::LedgerTooShort);
-        }
-        if !is_sealed(self.phase) {
-            return Err(Fault::WrongPhase);
-        }
-        if !is_plan(strip, self.n as usize) {
+        ask_state::<K, S>(shelf, ledger, self.phase == Phase::Sealed)?;
+        if !is_plan(strip, usize::from(self.n)) {
             return Err(Fault::StripUnfit);
         }
         if !meets_hard::<K, S>(shelf, ledger, strip) {
@@ -42,8 +37,7 @@ impl<K: CostKind> Bench<K> {
         if self.impossible {
             return Err(Fault::HardClauseUnmet);
         }
-        let owing = bill::<K, S>(shelf, ledger, strip, self.proved)?;
-        Ok(owing)
+        Ok(bill::<K, S>(shelf, ledger, strip, self.proved)?)
     }
 
     // Shows a plan: its cost, and how many soft clauses on the shelf it leaves unmet.
@@ -54,10 +48,10 @@ impl<K: CostKind> Bench<K> {
         strip: &[u8],
     ) -> Result<(K::Amount, usize), Fault>
         ensures did { S.fine shelf.now → Done (S.fine shelf.now) (shown_told K.kind.figures result) (state_at K.kind S.view self.new shelf.now ledger.now) (show_does K.kind.scale (state_at K.kind S.view self.old shelf.now ledger.now) strip.now) }
-        ensures refused { IfRefused result (self.new ≡ self.old) }
+        ensures refused { OnErr result (self.new ≡ self.old) }
     {
-        let owing = self.ask_show(shelf, ledger, strip)?;
-        self.shown = Some(owing.0);
-        Ok(owing)
+        let (cost, unmet) = self.ask_show(shelf, ledger, strip)?;
+        self.shown = Some(cost);
+        Ok((cost, unmet))
     }
 }

@@ -1,15 +1,15 @@
 // The steps of a log: split, join, resolve, define and harden. Each asks all its
 // questions first, without change, and only then writes; a granted step makes the
 // case working.
-ghost use Rattle.std.specs.Prelude.{◌≡◌};
+ghost use Rattle.std.specs.Prelude.{◌≡◌, OnErr};
 ghost use Rattle.clauses.specs.Codes.{codes as codes_of};
 ghost use Rattle.cost.specs.Kinds.{Kind};
 ghost use Rattle.faults.specs.Faults.{verdict_told};
 ghost use Rattle.rules.specs.Questions.{first_no};
 ghost use Rattle.rules.specs.Steps.{step_fits, split_does, join_does, resolve_does, define_does, harden_does};
-ghost use Rattle.bench.specs.Meaning.{state_at, granted_told, Done, IfRefused};
+ghost use Rattle.bench.specs.Meaning.{state_at, granted_told, Done};
 
-use crate::case::asking::{ledger_is_long_enough, takes_steps};
+use crate::case::asking::ask_state;
 use crate::case::{Bench, Phase};
 use cost::kind::CostKind;
 use faults::fault::Fault;
@@ -17,24 +17,19 @@ use ledger::cell::Cell;
 use ledger::cells::write_cell;
 use shelf::literal::Literal;
 use shelf::store::Shelf;
-use steps::defining::{ask_define, define};
+use steps::defining::Define;
 use steps::hardening::ask_harden;
-use steps::joining::{ask_join, join};
-use steps::resolving::{ask_resolve, mark_after, resolve};
-use steps::splitting::{ask_split, split};
+use steps::joining::Join;
+use steps::resolving::{Resolve, mark_after};
+use steps::splitting::Split;
 
 impl<K: CostKind> Bench<K> {
     // What every step and claim is asked first.
     pub(crate) fn ask_step<S: Shelf>(&self, shelf: &S, ledger: &[Cell<K::Row>]) -> Result<(), Fault>
         ensures { S.fine shelf.now → verdict_told result ≡ first_no (step_fits (state_at K.kind S.view self.now shelf.now ledger.now)) }
     {
-        if !ledger_is_long_enough::<K, S>(shelf, ledger) {
-            return Err(Fault::LedgerTooShort);
-        }
-        if !takes_steps(self.phase) {
-            return Err(Fault::WrongPhase);
-        }
-        Ok(())
+        let takes_steps = matches!(self.phase, Phase::Sealed | Phase::Working);
+        ask_state::<K, S>(shelf, ledger, takes_steps)
     }
 
     // Splits the clause at a place on a variable: with the variable it stays there, and
@@ -48,11 +43,16 @@ impl<K: CostKind> Bench<K> {
         to: usize,
     ) -> Result<(), Fault>
         ensures did { S.fine shelf.old → Done (S.fine shelf.new) (granted_told result) (state_at K.kind S.view self.new shelf.new ledger.new) (split_does K.kind.scale (state_at K.kind S.view self.old shelf.old ledger.old) place variable to) }
-        ensures refused { IfRefused result ((self.new ≡ self.old) × (shelf.new ≡ shelf.old) × (ledger.new ≡ ledger.old)) }
+        ensures refused { OnErr result ((self.new ≡ self.old) × (shelf.new ≡ shelf.old) × (ledger.new ≡ ledger.old)) }
     {
         self.ask_step(shelf, ledger)?;
-        ask_split(shelf, self.current, place, variable, to)?;
-        split::<K, S>(shelf, ledger, place, variable, to);
+        let step = Split {
+            place,
+            variable,
+            to,
+        };
+        step.ask(shelf, self.current)?;
+        step.make::<K, S>(shelf, ledger);
         self.phase = Phase::Working;
         Ok(())
     }
@@ -67,11 +67,12 @@ impl<K: CostKind> Bench<K> {
         j: usize,
     ) -> Result<(), Fault>
         ensures did { S.fine shelf.old → Done (S.fine shelf.new) (granted_told result) (state_at K.kind S.view self.new shelf.new ledger.new) (join_does K.kind.scale (state_at K.kind S.view self.old shelf.old ledger.old) i j) }
-        ensures refused { IfRefused result ((self.new ≡ self.old) × (shelf.new ≡ shelf.old) × (ledger.new ≡ ledger.old)) }
+        ensures refused { OnErr result ((self.new ≡ self.old) × (shelf.new ≡ shelf.old) × (ledger.new ≡ ledger.old)) }
     {
         self.ask_step(shelf, ledger)?;
-        let sum = ask_join::<K, S>(shelf, ledger, i, j)?;
-        join::<K, S>(shelf, ledger, i, j, sum);
+        let step = Join { i, j };
+        let sum = step.ask::<K, S>(shelf, ledger)?;
+        step.make::<K, S>(shelf, ledger, sum);
         self.phase = Phase::Working;
         Ok(())
     }
@@ -87,13 +88,14 @@ impl<K: CostKind> Bench<K> {
         to: usize,
     ) -> Result<(), Fault>
         ensures did { S.fine shelf.old → Done (S.fine shelf.new) (granted_told result) (state_at K.kind S.view self.new shelf.new ledger.new) (resolve_does K.kind.scale (state_at K.kind S.view self.old shelf.old ledger.old) i j variable to) }
-        ensures refused { IfRefused result ((self.new ≡ self.old) × (shelf.new ≡ shelf.old) × (ledger.new ≡ ledger.old)) }
+        ensures refused { OnErr result ((self.new ≡ self.old) × (shelf.new ≡ shelf.old) × (ledger.new ≡ ledger.old)) }
     {
         self.ask_step(shelf, ledger)?;
-        let r = ask_resolve::<K, S>(shelf, ledger, self.proved, i, j, variable, to)?;
+        let step = Resolve { i, j, variable, to };
+        let r = step.ask::<K, S>(shelf, ledger, self.proved)?;
         let weighed = r.weighed;
         let mark = mark_after::<K>(self.impossible, r.empty, weighed.common);
-        resolve::<K, S>(shelf, ledger, i, j, variable, to, r);
+        step.make::<K, S>(shelf, ledger, r);
         self.proved = weighed.proved;
         self.impossible = mark;
         self.phase = Phase::Working;
@@ -110,11 +112,12 @@ impl<K: CostKind> Bench<K> {
         literals: &[Literal],
     ) -> Result<(), Fault>
         ensures did { S.fine shelf.old → Done (S.fine shelf.new) (granted_told result) (state_at K.kind S.view self.new shelf.new ledger.new) (define_does K.kind.scale (state_at K.kind S.view self.old shelf.old ledger.old) to (codes_of literals.now)) }
-        ensures refused { IfRefused result ((self.new ≡ self.old) × (shelf.new ≡ shelf.old) × (ledger.new ≡ ledger.old)) }
+        ensures refused { OnErr result ((self.new ≡ self.old) × (shelf.new ≡ shelf.old) × (ledger.new ≡ ledger.old)) }
     {
         self.ask_step(shelf, ledger)?;
-        let next = ask_define(shelf, self.current, to, literals)?;
-        define::<K, S>(shelf, ledger, next, to, literals);
+        let step = Define { to, literals };
+        let next = step.ask(shelf, self.current)?;
+        step.make::<K, S>(shelf, ledger, next);
         self.current = next;
         self.phase = Phase::Working;
         Ok(())
@@ -129,7 +132,7 @@ impl<K: CostKind> Bench<K> {
         i: usize,
     ) -> Result<(), Fault>
         ensures did { S.fine shelf.now → Done (S.fine shelf.now) (granted_told result) (state_at K.kind S.view self.new shelf.now ledger.new) (harden_does K.kind.scale (state_at K.kind S.view self.old shelf.now ledger.old) i) }
-        ensures refused { IfRefused result ((self.new ≡ self.old) × (ledger.new ≡ ledger.old)) }
+        ensures refused { OnErr result ((self.new ≡ self.old) × (ledger.new ≡ ledger.old)) }
     {
         self.ask_step(shelf, ledger)?;
         ask_harden::<K, S>(shelf, ledger, self.proved, self.shown, i)?;

@@ -1,18 +1,21 @@
 // The kind of one tier: minutes late, within 10^12.
-ghost use Rattle.std.specs.Prelude.{◌≡◌, [], ◌∷◌, refl};
-ghost use Rattle.std.proofs.Common.{ap, ⊎_elim, lit≤};
+ghost use Rattle.std.specs.Prelude.{◌≡◌, [], ◌∷◌, ◌+ℤ◌, ◌-ℤ◌};
 ghost use Rattle.cost.specs.Kinds.{meant};
 ghost use Rattle.cost.specs.Models.{minutes_kind};
-ghost use Rattle.cost.specs.Reach.{reached, near};
-ghost use Rattle.std.proofs.lemmas.Bool.{cases_Bool};
-ghost use Rattle.cost.specs.Reaching.{near_true, near_parts};
-ghost use Rattle.cost.specs.MinutesCostKindLemmas.{of, same, listed, chosen, back_in};
+ghost use Rattle.cost.specs.Reach.{reached};
+ghost use Rattle.cost.specs.KindLemmas.{minutes_lawful};
 
 use crate::amounts::{Minutes, MinutesRow};
 use crate::kind::CostKind;
+use crate::misfit::Misfit;
 use crate::tier::Tier;
 use std::cmp::Ordering;
+use std::ops::{Add, Sub};
 
+// How many figures an amount has.
+const TIERS: usize = 1;
+
+// How far each figure may go, up and down.
 const REACH: i64 = 1_000_000_000_000;
 
 impl CostKind for Minutes {
@@ -22,32 +25,21 @@ impl CostKind for Minutes {
 
     ghost kind = { minutes_kind };
 
-    ghost lawful = { record {
-      tiers_some = lit≤ tt;
-      tiers_few = lit≤ tt;
-      reach_some = lit≤ tt;
-      reach_small = lit≤ tt;
-      bounded = λ a. (refl, (a.ok, tt));
-      onto = listed;
-      one = λ a b e. same a b (cc);
-      own_row = λ a. ap (chosen a.minutes) (near_true 1000000000000 a.minutes a.ok);
-      other_row = λ w no. ⊎_elim (λ e. absurd (no (of w.minutes (near_parts 1000000000000 w.minutes e)) refl)) (ap (chosen w.minutes)) (cases_Bool (near 1000000000000 w.minutes));
-      row_bounded = λ w. (refl, (back_in w.minutes (near 1000000000000 w.minutes) refl, tt));
-    } };
+    ghost lawful = { minutes_lawful };
 
     fn tiers() -> usize {
-        1
+        TIERS
     }
 
     fn nothing() -> Minutes {
         Minutes { minutes: 0 }
     }
 
-    fn make(figures: &[i64]) -> Result<Minutes, Tier> {
-        if figures.len() != 1 {
-            return Err(Tier { number: 0 });
-        }
-        checked(figures[0])
+    fn make(figures: &[i64]) -> Result<Minutes, Misfit> {
+        let &[minutes] = figures else {
+            return Err(Misfit::WrongLength);
+        };
+        Ok(Minutes::try_from(MinutesRow { minutes })?)
     }
 
     fn figure(a: Minutes, tier: usize) -> i64 {
@@ -55,45 +47,77 @@ impl CostKind for Minutes {
     }
 
     fn compare(a: Minutes, b: Minutes) -> Ordering {
-        if a.minutes < b.minutes {
-            Ordering::Less
-        } else if b.minutes < a.minutes {
-            Ordering::Greater
-        } else {
-            Ordering::Equal
-        }
+        a.cmp(&b)
     }
 
     fn sum(a: Minutes, b: Minutes) -> Result<Minutes, Tier> {
-        checked(a.minutes + b.minutes)
+        Minutes::try_from(a + b)
     }
 
     fn difference(a: Minutes, b: Minutes) -> Result<Minutes, Tier> {
-        checked(a.minutes - b.minutes)
+        Minutes::try_from(a - b)
     }
 
     fn exceeds(a: Minutes, b: Minutes, c: Minutes) -> bool {
-        a.minutes + b.minutes > c.minutes
+        a + b > MinutesRow::from(c)
     }
 
     fn row(a: Minutes) -> MinutesRow {
-        MinutesRow { minutes: a.minutes }
+        MinutesRow::from(a)
     }
 
     fn read(row: MinutesRow) -> Minutes {
-        match checked(row.minutes) {
-            Ok(a) => a,
-            Err(_) => Self::nothing(),
+        Minutes::try_from(row).unwrap_or(Self::nothing())
+    }
+}
+
+// The exact sum, in reach or not.
+impl Add for Minutes {
+    type Output = MinutesRow;
+
+    ghost add_gives = { λ a b w. w.minutes ≡ a.minutes +ℤ b.minutes };
+
+    fn add(self, other: Minutes) -> MinutesRow {
+        MinutesRow {
+            minutes: self.minutes + other.minutes,
         }
     }
 }
 
-// The amount of this figure, or a refusal where it is out of reach.
-fn checked(minutes: i64) -> Result<Minutes, Tier>
-    ensures { meant minutes_kind.figures result ≡ reached minutes_kind.scale (minutes ∷ []) }
-{
-    if minutes < -REACH || minutes > REACH {
-        return Err(Tier { number: 1 });
+// The exact difference, in reach or not.
+impl Sub for Minutes {
+    type Output = MinutesRow;
+
+    ghost sub_gives = { λ a b w. w.minutes ≡ a.minutes -ℤ b.minutes };
+
+    fn sub(self, other: Minutes) -> MinutesRow {
+        MinutesRow {
+            minutes: self.minutes - other.minutes,
+        }
     }
-    Ok(Minutes { minutes })
+}
+
+// The amount as it is kept.
+impl From<Minutes> for MinutesRow {
+    ghost from_gives = { λ a w. w ≡ minutes_kind.row a };
+
+    fn from(a: Minutes) -> MinutesRow {
+        MinutesRow { minutes: a.minutes }
+    }
+}
+
+// The amount of any number, or a refusal where it is out of reach.
+impl TryFrom<MinutesRow> for Minutes {
+    type Error = Tier;
+
+    ghost try_from_gives = { λ w r. meant minutes_kind.figures r ≡ reached minutes_kind.scale (w.minutes ∷ []) };
+
+    fn try_from(row: MinutesRow) -> Result<Minutes, Tier> {
+        let minutes = row.minutes;
+        if (-REACH..=REACH).contains(&minutes) {
+            Ok(Minutes { minutes })
+        } else {
+            Err(Tier { number: 1 })
+        }
+    }
 }

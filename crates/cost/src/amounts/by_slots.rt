@@ -1,19 +1,21 @@
 // The kind of two tiers: lost dock slots, then minutes late, each within 10^9.
-ghost use Rattle.std.specs.Prelude.{◌≡◌, [], ◌∷◌, refl};
-ghost use Rattle.std.proofs.Common.{ap, ⊎_elim, lit≤};
-ghost use Rattle.cost.specs.Figures.{order};
+ghost use Rattle.std.specs.Prelude.{◌≡◌, [], ◌∷◌, ◌+ℤ◌, ◌-ℤ◌};
 ghost use Rattle.cost.specs.Kinds.{meant};
 ghost use Rattle.cost.specs.Models.{slots_kind};
 ghost use Rattle.cost.specs.Reach.{reached};
-ghost use Rattle.std.specs.Ordering.{is_gt};
-ghost use Rattle.std.proofs.lemmas.Bool.{cases_Bool};
-ghost use Rattle.cost.specs.SlotsCostKindLemmas.{of, same, both_near, in_true, in_parts, listed, chosen, back_in};
+ghost use Rattle.cost.specs.KindLemmas.{slots_lawful};
 
 use crate::amounts::{Slots, SlotsRow};
 use crate::kind::CostKind;
+use crate::misfit::Misfit;
 use crate::tier::Tier;
 use std::cmp::Ordering;
+use std::ops::{Add, Sub};
 
+// How many figures an amount has.
+const TIERS: usize = 2;
+
+// How far each figure may go, up and down.
 const REACH: i64 = 1_000_000_000;
 
 impl CostKind for Slots {
@@ -23,21 +25,10 @@ impl CostKind for Slots {
 
     ghost kind = { slots_kind };
 
-    ghost lawful = { record {
-      tiers_some = lit≤ tt;
-      tiers_few = lit≤ tt;
-      reach_some = lit≤ tt;
-      reach_small = lit≤ tt;
-      bounded = λ a. let p = a.ok in (refl, ((p.0, p.1), ((p.2, p.3), tt)));
-      onto = listed;
-      one = λ a b e. same a b (cc) (cc);
-      own_row = λ a. ap (chosen a.slots a.minutes) (in_true a.slots a.minutes a.ok);
-      other_row = λ w no. ⊎_elim (λ e. absurd (no (of w.slots w.minutes (in_parts w.slots w.minutes e)) refl)) (ap (chosen w.slots w.minutes)) (cases_Bool (both_near w.slots w.minutes));
-      row_bounded = λ w. back_in w.slots w.minutes (both_near w.slots w.minutes) refl;
-    } };
+    ghost lawful = { slots_lawful };
 
     fn tiers() -> usize {
-        2
+        TIERS
     }
 
     fn nothing() -> Slots {
@@ -47,90 +38,101 @@ impl CostKind for Slots {
         }
     }
 
-    fn make(figures: &[i64]) -> Result<Slots, Tier> {
-        if figures.len() != 2 {
-            return Err(Tier { number: 0 });
-        }
-        checked(figures[0], figures[1])
+    fn make(figures: &[i64]) -> Result<Slots, Misfit> {
+        let &[slots, minutes] = figures else {
+            return Err(Misfit::WrongLength);
+        };
+        Ok(Slots::try_from(SlotsRow { slots, minutes })?)
     }
 
     fn figure(a: Slots, tier: usize) -> i64 {
-        if tier == 1 {
-            a.slots
-        } else if tier == 2 {
-            a.minutes
-        } else {
-            0
+        match tier {
+            1 => a.slots,
+            2 => a.minutes,
+            _ => 0,
         }
     }
 
     fn compare(a: Slots, b: Slots) -> Ordering {
-        ordered(a.slots, a.minutes, b)
+        a.cmp(&b)
     }
 
     fn sum(a: Slots, b: Slots) -> Result<Slots, Tier> {
-        checked(a.slots + b.slots, a.minutes + b.minutes)
+        Slots::try_from(a + b)
     }
 
     fn difference(a: Slots, b: Slots) -> Result<Slots, Tier> {
-        checked(a.slots - b.slots, a.minutes - b.minutes)
+        Slots::try_from(a - b)
     }
 
     fn exceeds(a: Slots, b: Slots, c: Slots) -> bool {
-        above(a.slots + b.slots, a.minutes + b.minutes, c)
+        a + b > SlotsRow::from(c)
     }
 
     fn row(a: Slots) -> SlotsRow {
+        SlotsRow::from(a)
+    }
+
+    fn read(row: SlotsRow) -> Slots {
+        Slots::try_from(row).unwrap_or(Self::nothing())
+    }
+}
+
+// The exact sum, in reach or not.
+impl Add for Slots {
+    type Output = SlotsRow;
+
+    ghost add_gives = { λ a b w. (w.slots ≡ a.slots +ℤ b.slots) × (w.minutes ≡ a.minutes +ℤ b.minutes) };
+
+    fn add(self, other: Slots) -> SlotsRow {
+        SlotsRow {
+            slots: self.slots + other.slots,
+            minutes: self.minutes + other.minutes,
+        }
+    }
+}
+
+// The exact difference, in reach or not.
+impl Sub for Slots {
+    type Output = SlotsRow;
+
+    ghost sub_gives = { λ a b w. (w.slots ≡ a.slots -ℤ b.slots) × (w.minutes ≡ a.minutes -ℤ b.minutes) };
+
+    fn sub(self, other: Slots) -> SlotsRow {
+        SlotsRow {
+            slots: self.slots - other.slots,
+            minutes: self.minutes - other.minutes,
+        }
+    }
+}
+
+// The amount as it is kept.
+impl From<Slots> for SlotsRow {
+    ghost from_gives = { λ a w. w ≡ slots_kind.row a };
+
+    fn from(a: Slots) -> SlotsRow {
         SlotsRow {
             slots: a.slots,
             minutes: a.minutes,
         }
     }
+}
 
-    fn read(row: SlotsRow) -> Slots {
-        match checked(row.slots, row.minutes) {
-            Ok(a) => a,
-            Err(_) => Self::nothing(),
+// The amount of any two numbers, or a refusal that names the first out of reach.
+impl TryFrom<SlotsRow> for Slots {
+    type Error = Tier;
+
+    ghost try_from_gives = { λ w r. meant slots_kind.figures r ≡ reached slots_kind.scale (w.slots ∷ w.minutes ∷ []) };
+
+    fn try_from(row: SlotsRow) -> Result<Slots, Tier> {
+        let SlotsRow { slots, minutes } = row;
+        let reach = -REACH..=REACH;
+        if !reach.contains(&slots) {
+            return Err(Tier { number: 1 });
         }
-    }
-}
-
-// The amount of these figures, or a refusal that names the first out of reach.
-fn checked(slots: i64, minutes: i64) -> Result<Slots, Tier>
-    ensures { meant slots_kind.figures result ≡ reached slots_kind.scale (slots ∷ minutes ∷ []) }
-{
-    if slots < -REACH || slots > REACH {
-        return Err(Tier { number: 1 });
-    }
-    if minutes < -REACH || minutes > REACH {
-        return Err(Tier { number: 2 });
-    }
-    Ok(Slots { slots, minutes })
-}
-
-// How these figures, in reach or not, compare with b.
-fn ordered(slots: i64, minutes: i64, b: Slots) -> Ordering
-    ensures { result ≡ order (slots ∷ minutes ∷ []) (b.slots ∷ b.minutes ∷ []) }
-{
-    if slots < b.slots {
-        Ordering::Less
-    } else if b.slots < slots {
-        Ordering::Greater
-    } else if minutes < b.minutes {
-        Ordering::Less
-    } else if b.minutes < minutes {
-        Ordering::Greater
-    } else {
-        Ordering::Equal
-    }
-}
-
-// Whether these figures, in reach or not, are greater than b.
-fn above(slots: i64, minutes: i64, b: Slots) -> bool
-    ensures { result ≡ is_gt (order (slots ∷ minutes ∷ []) (b.slots ∷ b.minutes ∷ [])) }
-{
-    match ordered(slots, minutes, b) {
-        Ordering::Greater => true,
-        _ => false,
+        if !reach.contains(&minutes) {
+            return Err(Tier { number: 2 });
+        }
+        Ok(Slots { slots, minutes })
     }
 }

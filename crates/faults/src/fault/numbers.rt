@@ -1,4 +1,5 @@
-// The number that a fault is told by, and the tier that it carries.
+// The number that a fault is told by, and the tier that it carries. By name and no `From`: a
+// fault has two numbers, and a `u8::from` would not say which.
 ghost use Rattle.std.specs.Prelude.{◌≡◌};
 ghost use Rattle.faults.specs.Faults.{number_of, tier_of};
 ghost use Rattle.faults.specs.declared.fault.Fault.TheVariants.{OutOfReach};
@@ -21,11 +22,11 @@ impl Fault {
             Fault::StripUnfit => 7,
             Fault::HardClauseUnmet => 8,
             Fault::SourceUnfit => 9,
-            Fault::LiteralMissing => 10,
-            Fault::VariableUnfit => 10,
-            Fault::ClausesDiffer => 10,
-            Fault::DefinitionUnfit => 10,
-            Fault::AlreadyHard => 10,
+            Fault::LiteralMissing
+            | Fault::VariableUnfit
+            | Fault::ClausesDiffer
+            | Fault::DefinitionUnfit
+            | Fault::AlreadyHard => 10,
             Fault::ResultTooLong => 11,
             Fault::NoRoom => 12,
             Fault::OutOfReach(_) => 13,
@@ -36,7 +37,7 @@ impl Fault {
         }
     }
 
-    // The tier of an amount out of reach, counted from 1; 0 for any other fault.
+    // The tier of an amount out of reach, counted from 1; 0 for any other fault, as it is told.
     pub fn tier(self) -> u8
         ensures { result ≡ tier_of self }
     {

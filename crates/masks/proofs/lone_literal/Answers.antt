@@ -1,9 +1,11 @@
-use Rattle.std.proofs.Common.{length, refl}
-use Rattle.shelf.proofs.Adding.{lone_told}
+use Rattle.std.proofs.Common.{length, refl, ap, ◌∙◌}
+use Rattle.shelf.proofs.Adding.{lone_then}
+use Rattle.shelf.specs.Telling.{size_then}
 use Rattle.masks.specs.Made.{made_view}
 use Rattle.masks.proofs.lone_literal.Goals as goal
 
 pub returns : goal.returns
 returns c =
-    let d = c.in_ok-add.ensures.did c.new-shelf.ensures.fine in
-    lone_told (made_view (length c.args.words.now)) c.args.literal.code c.size.result _ _ refl c.new-shelf.ensures.view d.answer d.view (c.size.ensures.is d.fine)
+    let s = c.new-shelf.ensures in
+    let v = made_view (length c.args.words.now) in
+    c.lone_literal.ensures s.fine ∙ ap (λ w. size_then w c.args.literal.code) s.view ∙ lone_then v c.args.literal.code refl

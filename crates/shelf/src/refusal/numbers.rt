@@ -1,4 +1,4 @@
-// The number that a refusal is told by.
+// The number that a refusal is told by. No `From`: a `u8::from` would not say what the `u8` is.
 ghost use Rattle.std.specs.Prelude.{◌≡◌};
 ghost use Rattle.shelf.specs.Answers.{number_of};
 

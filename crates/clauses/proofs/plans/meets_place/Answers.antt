@@ -1,28 +1,13 @@
-use Rattle.std.proofs.Common.{sym, ap, ◌∙◌, arith}
-use Rattle.rules.specs.Plans.{makes_true, meets}
+use Rattle.std.proofs.Common.{get_or, length, refl, rules, arith, ◌∙◌}
+use Rattle.std.proofs.lemmas.Iterator.{YieldsList-from_range}
+use Rattle.std.proofs.lemmas.Iterator.Search.{any_from_yields_List}
+use Rattle.rules.specs.Plans.{makes_true}
 use Rattle.shelf.specs.View.{clause}
-use Rattle.clauses.proofs.Turns.{meets_here, meets_more, meets_none}
+use Rattle.clauses.proofs.Indexing.{meets_any}
 use Rattle.clauses.proofs.plans.meets_place.Goals as goal
-
-pub returns-then-makes_literal_true : goal.returns-then-makes_literal_true
-returns-then-makes_literal_true g c h =
-    let x = c.args.strip.now in
-    let cs = clause (g.S.Shelf.view c.args.shelf.now) c.args.place in
-    let n = c.size-n.ensures.is h in
-    let e = ap (makes_true x) (sym (c.literal.ensures h)) ∙ sym c.makes_literal_true.ensures ∙ c.if-makes_literal_true.true in
-    meets_here x cs c.loop-k.k (meets x cs) (c.loop-k.invariant h) (omega arith) e
-
-pub loop-k-preserved : goal.loop-k-preserved
-loop-k-preserved g c h =
-    let x = c.args.strip.now in
-    let cs = clause (g.S.Shelf.view c.args.shelf.now) c.args.place in
-    let n = c.size-n.ensures.is h in
-    let e = ap (makes_true x) (sym (c.literal.ensures h)) ∙ sym c.makes_literal_true.ensures ∙ c.if-makes_literal_true.false in
-    meets_more x cs c.loop-k.k (meets x cs) (c.loop-k.invariant h) (omega arith) e
 
 pub returns : goal.returns
 returns g c h =
-    let x = c.args.strip.now in
     let cs = clause (g.S.Shelf.view c.args.shelf.now) c.args.place in
-    let n = c.size-n.ensures.is h in
-    meets_none x cs c.loop-k.k (meets x cs) (c.loop-k.invariant h) (omega arith)
+    any_from_yields_List (λ k. makes_true c.args.strip.now (get_or cs k 0)) _ _ _ c.any.ensures.ran (YieldsList-from_range 0 _ (length cs) refl (omega (arith, c.size.ensures.is h))) (λ x b q k. search rules)
+    ∙ meets_any c.args.strip.now cs

@@ -1,4 +1,6 @@
 use Rattle.std.proofs.Common.{sym, ap, ◌∙◌}
+use Rattle.std.specs.Prelude.{pos}
+use Rattle.std.proofs.lemmas.List.{length-replicate}
 use Rattle.cost.specs.Figures.{zeros, plus}
 use Rattle.cost.proofs.Groups as group
 use Rattle.cost.proofs.laws.figures_stand.Goals as goal
@@ -7,7 +9,7 @@ pub returns : goal.returns
 returns c =
     λ r.
     record {
-      zeros_tiered = group.zeros_length r;
+      zeros_tiered = length-replicate r (pos 0);
       plus_tiered = λ xs ys p q. group.plus_length xs ys (p ∙ sym q) ∙ p;
       minus_tiered = λ xs ys p q. group.minus_length xs ys (p ∙ sym q) ∙ p;
       plus_comm = group.plus_comm;

@@ -1,43 +1,22 @@
-use Rattle.std.proofs.Common.{◌+◌, Bool, ◌&&◌, drop, sym, ap, ◌∙◌, arith}
+use Rattle.std.proofs.Common.{[], get_or, min, length, refl, rules, arith, ◌∙◌}
 use Rattle.std.proofs.lemmas.List.{length-map}
-use Rattle.std.proofs.lemmas.Bool.{and_left}
+use Rattle.std.proofs.lemmas.Iterator.{YieldsList-from_range}
+use Rattle.std.proofs.lemmas.Iterator.Search.{all_from_yields_List}
 use Rattle.cost.specs.Figures.{zeros}
 use Rattle.rules.specs.Cells.{soft}
-use Rattle.rules.specs.Showing.{hard_met}
+use Rattle.rules.specs.Showing.{met_at}
 use Rattle.ledger.specs.Meaning.{cell_of, cells_of}
-use Rattle.ledger.proofs.Billing.{met_turn, met_end}
+use Rattle.ledger.proofs.Billing.{met_all}
 use Rattle.ledger.proofs.bills.meets_hard.Goals as goal
-
-pub returns-then-not-met_if_hard : goal.returns-then-not-met_if_hard
-returns-then-not-met_if_hard g c h =
-    let k = g.K.CostKind.kind in
-    let v = g.S.Shelf.view c.args.shelf.now in
-    let ks = cells_of k c.args.ledger.now in
-    let n = c.covered-count.ensures.is h in
-    let s = (g.S.Shelf.sound _ h).count in
-    let m = length-map c.args.ledger.now (cell_of k.back) in
-    let p = c.loop-p.p in
-    let x = c.args.strip.now in
-    let e = sym (c.met_if_hard.ensures h) ∙ c.if-not-met_if_hard.true in
-    sym (and_left _ (hard_met x (drop (p + 1) v.held) (drop (p + 1) ks)) e) ∙ sym (met_turn x v.held ks p (soft (zeros k.scale.tiers)) (omega arith) (omega arith)) ∙ c.loop-p.invariant h
-
-pub loop-p-preserved : goal.loop-p-preserved
-loop-p-preserved g c h =
-    let k = g.K.CostKind.kind in
-    let v = g.S.Shelf.view c.args.shelf.now in
-    let ks = cells_of k c.args.ledger.now in
-    let n = c.covered-count.ensures.is h in
-    let s = (g.S.Shelf.sound _ h).count in
-    let m = length-map c.args.ledger.now (cell_of k.back) in
-    let p = c.loop-p.p in
-    let x = c.args.strip.now in
-    let e = sym (c.met_if_hard.ensures h) ∙ c.if-not-met_if_hard.false in
-    ap (λ (b : Bool). b && hard_met x (drop (p + 1) v.held) (drop (p + 1) ks)) (sym e) ∙ sym (met_turn x v.held ks p (soft (zeros k.scale.tiers)) (omega arith) (omega arith)) ∙ c.loop-p.invariant h
 
 pub returns : goal.returns
 returns g c h =
-    let v = g.S.Shelf.view c.args.shelf.now in
-    let n = c.covered-count.ensures.is h in
-    let s = (g.S.Shelf.sound _ h).count in
-    let m = length-map c.args.ledger.now (cell_of g.K.CostKind.kind.back) in
-    sym (met_end c.args.strip.now v.held (cells_of g.K.CostKind.kind c.args.ledger.now) c.loop-p.p (omega arith)) ∙ c.loop-p.invariant h
+    let k = g.K.CostKind.kind in
+    let x = c.args.strip.now in
+    let held = (g.S.Shelf.view c.args.shelf.now).held in
+    let ks = cells_of k c.args.ledger.now in
+    let d = soft (zeros k.scale.tiers) in
+    let m = length-map c.args.ledger.now (cell_of k.back) in
+    all_from_yields_List (λ p. met_at x (get_or held p []) (get_or ks p d)) _ _ _ c.all.ensures.ran
+    (YieldsList-from_range 0 _ (min (length held) (length ks)) refl (omega (arith, c.covered.ensures.is h, (g.S.Shelf.sound _ h).count))) (λ p b q t. search rules)
+    ∙ met_all x held ks d

@@ -1,5 +1,5 @@
-use Rattle.std.proofs.Common.{◌≡◌, ℕ, zero, suc, ◌<◌, ◌≤◌, [], ◌∷◌, ◌++◌, map, length, replicate, sym, refl, ap, ◌∙◌, arith}
-use Rattle.std.proofs.lemmas.List.{take_more_set, replicate_more, take_all, length-map}
+use Rattle.std.proofs.Common.{◌≡◌, ℕ, zero, suc, ◌≤◌, ◌∷◌, map, length, replicate, sym, refl, ap, ◌∙◌, arith}
+use Rattle.std.proofs.lemmas.List.{take_all, length-map}
 use Rattle.cost.specs.Figures.{zeros}
 use Rattle.rules.specs.Cells as rules
 use Rattle.ledger.specs.declared.cell.Cell.TheVariants.{Soft}
@@ -9,12 +9,6 @@ use Rattle.ledger.proofs.cells.clear.Goals as goal
 map-replicate : {X Y : Type 0} (f : X → Y) (n : ℕ) (x : X) → map f (replicate n x) ≡ replicate n (f x)
 map-replicate f zero x = refl
 map-replicate f (suc n) x = ap (λ ys. f x ∷ ys) (map-replicate f n x)
-
-pub loop-cell-preserved : goal.loop-cell-preserved
-loop-cell-preserved g c =
-    let y = Soft c.row-nothing.result in
-    let h : c.loop-cell.cell-index < length c.loop-cell.ledger = omega arith in
-    take_more_set c.loop-cell.ledger c.loop-cell.cell-index y h ∙ ap (λ ys. ys ++ y ∷ []) c.loop-cell.invariant ∙ replicate_more c.loop-cell.cell-index y
 
 pub returns : goal.returns
 returns g c =

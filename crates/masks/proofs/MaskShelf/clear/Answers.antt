@@ -3,10 +3,9 @@ use Rattle.masks.proofs.MaskShelf.clear.Goals as goal
 
 pub returns : goal.returns
 returns c =
-    let s = c.args.self.now in
-    let ws = s.words.now in
+    let zeros = c.fill.ensures.after (λ y e. e) in
     record {
-      became = cleared_became s.places ws c.args.place c.args.at c.requires;
-      spare = cleared_spare s.places ws c.args.place c.args.at c.requires;
-      zero = cleared_blank s.places ws c.args.place c.args.at c.requires;
+      became = cleared_became _ _ _ _ _ c.requires zeros;
+      spare = cleared_spare _ _ _ _ _ c.requires zeros;
+      zero = cleared_blank _ _ _ _ _ c.requires zeros;
     }

@@ -1,3 +1,5 @@
+-- Each goal is given its own calls, and builds on those before: so each is answered from the first
+-- call on, and no lemma over all five would be shorter than what it takes.
 use Rattle.std.proofs.Common.{ℕ, [], ◌∷◌, ap, ◌∙◌, subst}
 use Rattle.std.proofs.lemmas.Result.{err_from_is_err_and}
 use Rattle.faults.specs.Faults.{number_of, tier_of}

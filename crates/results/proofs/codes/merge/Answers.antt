@@ -1,26 +1,17 @@
-use Rattle.std.proofs.Common.{◌+◌, ◌≤◌, ◌⊎◌, length, inl, inr, arith, rules}
-use Rattle.std.proofs.lemmas.List.{length-take, length-drop}
-use Rattle.results.proofs.Merging.{take_left, take_both, take_right, merged}
+use Rattle.std.proofs.Common.{arith}
+use Rattle.std.proofs.lemmas.List.{take_rest}
+use Rattle.std.proofs.lemmas.Grind.{common_steps}
+use Rattle.results.proofs.Merging.{merge_less, merge_same, merge_more, merge_left, merge_right}
 use Rattle.results.proofs.codes.merge.Goals as goal
-use Rattle.results.proofs.codes.merge.Goals.{then-a-b, else-a-b+then-a-b-2, else-a-b+else-a-b-2, then-loop-i-test+else-j-y, else-loop-i-test}
 
-pub loop-i-preserved : goal.loop-i-preserved
-loop-i-preserved c =
-    let m = c.loop-i.invariant in
-    let r : length c.args.x.now + length c.args.y.now ≤ length c.loop-i.out = omega arith in
-    elim c.if-a-b.branch [
-      | then-a-b w ↦ let t = take_left m r (omega arith) (omega arith) (omega arith) in search rules
-      | else-a-b+then-a-b-2 w ↦ let t = take_both m r (omega arith) (omega arith) (omega arith) in search rules
-      | else-a-b+else-a-b-2 w ↦ let t = take_right m r (omega arith) (omega arith) (omega arith) in search rules
-    ]
+pub loop-xs-preserved-in-Less : goal.loop-xs-preserved-in-Less
+loop-xs-preserved-in-Less c = grind (arith, common_steps, merge_less, take_rest)
 
-one_ended : (c : goal.After-slice_known-3-1) → (length c.args.x.now ≤ c.loop-i.i) ⊎ (length c.args.y.now ≤ c.loop-i.j)
-one_ended c = elim c.loop-i-test.branch [ then-loop-i-test+else-j-y w ↦ inr w.if-j-y.false | else-loop-i-test w ↦ inl w.loop-i-test.false ]
+pub loop-xs-preserved-in-Equal : goal.loop-xs-preserved-in-Equal
+loop-xs-preserved-in-Equal c = grind (arith, common_steps, merge_same, take_rest)
+
+pub loop-xs-preserved : goal.loop-xs-preserved
+loop-xs-preserved c = grind (arith, common_steps, merge_more, take_rest)
 
 pub returns : goal.returns
-returns c =
-    let m = c.loop-i.invariant in
-    record {
-      low = omega (arith, simp (length-take, length-drop) at c.append-n.ensures.count, simp (length-take, length-drop) at c.append.ensures.count);
-      is = merged m (one_ended c) c.append-n.ensures.is c.append.ensures.is;
-    }
+returns c = grind (arith, common_steps, merge_left, merge_right)

@@ -1,23 +1,16 @@
-use Rattle.std.proofs.Common.{◌<◌, ◌≤◌, ◌⊎◌, length, get_or, inl, inr, arith}
-use Rattle.std.proofs.lemmas.List.{length-take, length-drop}
-use Rattle.results.proofs.Putting.{put_begun, put_more, put_done}
+use Rattle.std.proofs.Common.{◌≡◌, ltb, length, sym, ◌∙◌, ap, ap₂, rules}
+use Rattle.std.proofs.lemmas.Iterator.{YieldsList-from_slice}
+use Rattle.std.proofs.lemmas.Iterator.Search.{position_from_yields_List}
+use Rattle.std.specs.List.{insert}
+use Rattle.std.specs.Option.{unwrap_or}
+use Rattle.results.proofs.Merging.{put_insert, place_or_end}
 use Rattle.results.proofs.codes.put.Goals as goal
-use Rattle.results.proofs.codes.put.Goals.{then-loop-k-test+else-codes-k, else-loop-k-test}
-
-pub loop-k-init : goal.loop-k-init
-loop-k-init c = put_begun c.args.code c.args.codes.now c.args.out.now
-
-pub loop-k-preserved : goal.loop-k-preserved
-loop-k-preserved c = put_more c.loop-k.invariant (omega arith) (omega arith) (omega arith)
-
--- the rest is greater, or there is none
-ended : (c : goal.After-slice_known-2-1) → (length c.args.codes.now ≤ c.loop-k.k) ⊎ ((c.loop-k.k < length c.args.codes.now) × (c.args.code < get_or c.args.codes.now c.loop-k.k 0))
-ended c = elim c.loop-k-test.branch [ then-loop-k-test+else-codes-k w ↦ inr (w.loop-k-test.true, w.if-codes-k.false) | else-loop-k-test w ↦ inl w.loop-k-test.false ]
 
 pub returns : goal.returns
 returns c =
-    let p = c.loop-k.invariant in
-    record {
-      low = omega (arith, simp (length-take, length-drop) at c.append.ensures.count);
-      is = put_done p (omega arith) (ended c) c.append.ensures.is;
-    }
+    let codes = c.args.codes.now in
+    let code = c.args.code in
+    let all : c.try_extend_from_slice.new.self.items ≡ codes = search rules in
+    let found = position_from_yields_List (ltb code) _ _ c.position.result c.position.ensures.ran (YieldsList-from_slice codes cc) (λ x b q k. search rules) in
+    let at = c.unwrap_or-at.ensures ∙ ap (λ r. unwrap_or r (length codes)) found ∙ place_or_end (ltb code) codes in
+    c.insert.ensures.items ∙ ap₂ (λ xs k. insert xs k code) all at ∙ sym (put_insert code codes)

@@ -1,11 +1,8 @@
-use Rattle.std.proofs.Common.{◌+◌, drop, refl, ap, ◌∙◌, arith}
+use Rattle.std.proofs.Common.{◌+◌, drop, ap, ◌∙◌, arith}
 use Rattle.shelf.specs.Answers.{after_adds}
 use Rattle.shelf.specs.View.{View}
-use Rattle.shelf.proofs.Writing.{part_none, part_more, part_done, adds_more, adds_done}
+use Rattle.shelf.proofs.Writing.{part_more, part_done, adds_more, adds_done}
 use Rattle.shelf.proofs.places.write_codes.Goals as goal
-
-pub loop-c-init : goal.loop-c-init
-loop-c-init g c h = (h, refl, part_none)
 
 pub loop-c-preserved : goal.loop-c-preserved
 loop-c-preserved g c h =

@@ -1,69 +1,58 @@
-use Rattle.std.proofs.Common.{eqb, length, ap}
+use Rattle.std.proofs.Common.{ap, ◌∙◌}
 use Rattle.std.proofs.lemmas.Result.{err_from_is_err_and}
 use Rattle.clauses.specs.Codes.{codes}
 use Rattle.cost.specs.Figures.{plus}
-use Rattle.ledger.specs.Given.{Taken}
+use Rattle.ledger.specs.Given.{Taken, taken_told}
 use Rattle.rules.specs.Filling.{amount_fits}
 use Rattle.bench.specs.Meaning.{state_of}
-use Rattle.bench.proofs.Softly.{empty_test, soft_stop, soft_unfit, soft_out, soft_pass}
-use Rattle.steps.proofs.Verdicts.{test_none, test_some}
+use Rattle.bench.proofs.Clausing.{empty_test}
+use Rattle.bench.proofs.Softly.{was_taken, soft_stop, soft_out, soft_pass}
+use Rattle.steps.proofs.Verdicts.{test_some}
 use Rattle.bench.proofs.case.Bench.ask_soft.Goals as goal
 
-pub returns-in_err-count : goal.returns-in_err-count
-returns-in_err-count g c =
+pub returns-in_err-codes : goal.returns-in_err-codes
+returns-in_err-codes g c =
     let k = g.K.CostKind.kind in
     let s = state_of k c.args.self.now (g.S.Shelf.view c.args.shelf.now) c.args.ledger.now in
     let xs = c.args.figures.now in
     let cs = codes c.args.clause.now in
     let p = err_from_is_err_and c.from_residual.result c.from_residual.ensures.1 in
     rw (p.1, p.2) (record {
-      low = tt;
-      is = λ h. soft_stop k.scale s c.args.place xs cs _ _ (c.in_err-count.ensures.is h);
+      is = λ h. soft_stop k.scale s c.args.place xs cs _ _ (c.in_err-codes.ensures.is h);
       accepted = λ h. tt;
     })
 
-pub returns-in-None : goal.returns-in-None
-returns-in-None g c =
+pub returns-in_err-proved : goal.returns-in_err-proved
+returns-in_err-proved g c =
     let k = g.K.CostKind.kind in
     let s = state_of k c.args.self.now (g.S.Shelf.view c.args.shelf.now) c.args.ledger.now in
     let xs = c.args.figures.now in
     let cs = codes c.args.clause.now in
-    let f = test_none (amount_fits k.scale s.bench.total xs) (record { amount = xs; total = plus s.bench.total xs }) c.in-None.ensures in
-    record { low = tt; is = λ h. soft_unfit k.scale s c.args.place xs cs (c.in_ok-count.ensures.is h) f; accepted = λ h. tt }
-
-pub returns-in_err-proved-in-Some : goal.returns-in_err-proved-in-Some
-returns-in_err-proved-in-Some g c =
-    let k = g.K.CostKind.kind in
-    let s = state_of k c.args.self.now (g.S.Shelf.view c.args.shelf.now) c.args.ledger.now in
-    let xs = c.args.figures.now in
-    let cs = codes c.args.clause.now in
-    let p = err_from_is_err_and c.from_residual-in_err-proved-in-Some.result c.from_residual-in_err-proved-in-Some.ensures.1 in
-    let t = test_some (amount_fits k.scale s.bench.total xs) (record { amount = xs; total = plus s.bench.total xs }) _ c.in-Some.ensures in
-    let e = eqb (length c.args.clause.now) 0 in
+    let p = err_from_is_err_and c.from_residual-in_err-proved.result c.from_residual-in_err-proved.ensures.1 in
+    let t = test_some (amount_fits k.scale s.bench.total xs) (record { amount = xs; total = plus s.bench.total xs }) _ (ap (taken_told k.figures) (was_taken _ _ c.in_ok-amount.ensures.value) ∙ c.take_amount.ensures) in
+    let e = c.is_empty.result in
     rw (p.1, p.2) (record {
-      low = tt;
       is = λ h.
-          soft_out k.scale s c.args.place xs cs (c.in_ok-count.ensures.is h) t.0 (k.figures c.in-Some.taken.0) e (ap (λ (y : Taken). y.amount) t.1) (empty_test c.args.clause.now) _ c.in_err-proved-in-Some.ensures;
+          soft_out k.scale s c.args.place xs cs (c.in_ok-codes.ensures.is h) t.0 (k.figures c.in_ok-amount.amount) e (ap (λ (y : Taken). y.amount) t.1) (c.is_empty.ensures ∙ empty_test c.args.clause.now) _ c.in_err-proved.ensures;
       accepted = λ h. tt;
     })
 
-pub returns-in_ok-proved-in-Some : goal.returns-in_ok-proved-in-Some
-returns-in_ok-proved-in-Some g c =
+pub returns : goal.returns
+returns g c =
     let k = g.K.CostKind.kind in
     let s = state_of k c.args.self.now (g.S.Shelf.view c.args.shelf.now) c.args.ledger.now in
     let xs = c.args.figures.now in
     let cs = codes c.args.clause.now in
-    let t = test_some (amount_fits k.scale s.bench.total xs) (record { amount = xs; total = plus s.bench.total xs }) _ c.in-Some.ensures in
-    let e = eqb (length c.args.clause.now) 0 in
+    let t = test_some (amount_fits k.scale s.bench.total xs) (record { amount = xs; total = plus s.bench.total xs }) _ (ap (taken_told k.figures) (was_taken _ _ c.in_ok-amount.ensures.value) ∙ c.take_amount.ensures) in
+    let e = c.is_empty.result in
     record {
-      low = c.in_ok-count.ensures.low;
       is = λ h.
-          (soft_pass k.scale s c.args.place xs cs (c.in_ok-count.ensures.is h) t.0 (k.figures c.in-Some.taken.0) e (ap (λ (y : Taken). y.amount) t.1) (empty_test c.args.clause.now) _ c.in_ok-proved-in-Some.ensures).0;
+          (soft_pass k.scale s c.args.place xs cs (c.in_ok-codes.ensures.is h) t.0 (k.figures c.in_ok-amount.amount) e (ap (λ (y : Taken). y.amount) t.1) (c.is_empty.ensures ∙ empty_test c.args.clause.now) _ c.in_ok-proved.ensures).0;
       accepted = λ h. record {
-        copied = c.in_ok-count.ensures.copied h;
+        copied = c.in_ok-codes.ensures.copied h;
         amount_is = ap (λ (y : Taken). y.amount) t.1;
         total_is = ap (λ (y : Taken). y.total) t.1;
         proved_is =
-            (soft_pass k.scale s c.args.place xs cs (c.in_ok-count.ensures.is h) t.0 (k.figures c.in-Some.taken.0) e (ap (λ (y : Taken). y.amount) t.1) (empty_test c.args.clause.now) _ c.in_ok-proved-in-Some.ensures).1;
+            (soft_pass k.scale s c.args.place xs cs (c.in_ok-codes.ensures.is h) t.0 (k.figures c.in_ok-amount.amount) e (ap (λ (y : Taken). y.amount) t.1) (c.is_empty.ensures ∙ empty_test c.args.clause.now) _ c.in_ok-proved.ensures).1;
       };
     }

@@ -13,51 +13,51 @@ use Rattle.bench.proofs.Clausing.{none_given, some_given, clause_passed, may_wri
 use Rattle.bench.proofs.Doing.{refusing, granting, same_state}
 use Rattle.bench.proofs.case.Bench.hard.Goals as goal
 
-pub returns-in_err-count : goal.returns-in_err-count
+pub returns-in_err-codes : goal.returns-in_err-codes
 unfolding hard_does
-returns-in_err-count g c =
+returns-in_err-codes g c =
     let k = g.K.CostKind.kind in
     let s = state_of k c.args.self.now (g.S.Shelf.view c.args.shelf.now) c.args.ledger.now in
     let cs = codes c.args.clause.now in
     let p = err_from_is_err_and c.from_residual.result c.from_residual.ensures.1 in
     rw (p.1, p.2) (record {
-      did = λ h. refusing h s (clause_questions s c.args.place cs) (grants (hard_done s c.args.place cs)) c.in_err-count.field-0.0 (c.in_err-count.ensures.is h);
+      did = λ h. refusing h s (clause_questions s c.args.place cs) (grants (hard_done s c.args.place cs)) c.in_err-codes.field-0.0 (c.in_err-codes.ensures.is h);
       refused = (refl, refl, refl);
     })
 
-pub returns-then-clause-eq0 : goal.returns-then-clause-eq0
+pub returns-then-is_empty : goal.returns-then-is_empty
 unfolding hard_does
-returns-then-clause-eq0 g c =
+returns-then-is_empty g c =
     let k = g.K.CostKind.kind in
     let s = state_of k c.args.self.now (g.S.Shelf.view c.args.shelf.now) c.args.ledger.now in
     let cs = codes c.args.clause.now in
     let p = c.args.place in
-    let n = none_given c.args.clause.now c.if-clause-eq0.true in
+    let n = none_given c.args.clause.now c.is_empty.ensures c.if-is_empty.true in
     record {
       did = λ h.
-          granting h s (clause_questions s p cs) (grants (hard_done s p cs)) (c.in_ok-count.ensures.is h) refl
+          granting h s (clause_questions s p cs) (grants (hard_done s p cs)) (c.in_ok-codes.ensures.is h) refl
           (ap (λ (b : Bool). cond b (with_bench s (marked s.bench)) (placed s p cs hard)) (sym n));
       refused = tt;
     }
 
-pub returns-else-clause-eq0 : goal.returns-else-clause-eq0
+pub returns-else-is_empty : goal.returns-else-is_empty
 unfolding hard_does
-returns-else-clause-eq0 g c =
+returns-else-is_empty g c =
     let k = g.K.CostKind.kind in
     let v = g.S.Shelf.view c.args.shelf.now in
     let l = cells_of k c.args.ledger.now in
     let s = state_of k c.args.self.now v c.args.ledger.now in
     let cs = codes c.args.clause.now in
     let p = c.args.place in
-    let n = some_given c.args.clause.now c.if-clause-eq0.false in
+    let n = some_given c.args.clause.now c.is_empty.ensures c.if-is_empty.false in
     record {
       did = λ h.
-          let passed = c.in_ok-count.ensures.is h in
+          let passed = c.in_ok-codes.ensures.is h in
           let q = clause_passed s p cs passes passed in
           let F : List ℕ → Type 0 = λ xs.
           Writable v p xs
           → Laid (g.S.Shelf.fine c.put_clause.new.shelf) (g.S.Shelf.view c.put_clause.new.shelf) (with_held v (set v.held p xs)) (cells_of k c.put_clause.new.ledger) (set l p hard) in
-          let put = subst F (c.in_ok-count.ensures.copied h) (c.put_clause.ensures h) (may_write s p cs q.0 q.1 n) in
+          let put = subst F (c.deref.ensures.0 ∙ c.in_ok-codes.ensures.copied h) (c.put_clause.ensures h) (may_write s p cs q.0 q.1 n) in
           granting put.fine s (clause_questions s p cs) (grants (hard_done s p cs)) passed refl
           (same_state refl put.view put.cells ∙ ap (λ (b : Bool). cond b (with_bench s (marked s.bench)) (placed s p cs hard)) (sym n));
       refused = tt;

@@ -29,9 +29,9 @@ returns-in_err-accepted g c =
       refused = (refl, refl, refl);
     })
 
-pub returns-then-clause-ne0 : goal.returns-then-clause-ne0
+pub returns-then-not-is_empty : goal.returns-then-not-is_empty
 unfolding soft_does
-returns-then-clause-ne0 g c =
+returns-then-not-is_empty g c =
     let k = g.K.CostKind.kind in
     let v = g.S.Shelf.view c.args.shelf.now in
     let l = cells_of k c.args.ledger.now in
@@ -41,7 +41,7 @@ returns-then-clause-ne0 g c =
     let p = c.args.place in
     let a = c.in_ok-accepted.accepted in
     let given = with_bench s (with_sums s.bench (plus s.bench.total xs) (paid (none cs) (soft xs) s.bench.proved)) in
-    let n = some_given c.args.clause.now c.if-clause-ne0.true in
+    let n = some_given c.args.clause.now c.is_empty.ensures c.if-not-is_empty.true in
     record {
       did = λ h.
           let passed = c.in_ok-accepted.ensures.is h in
@@ -50,16 +50,16 @@ returns-then-clause-ne0 g c =
           let F : List ℕ → Type 0 = λ ys.
           Writable v p ys
           → Laid (g.S.Shelf.fine c.put_clause.new.shelf) (g.S.Shelf.view c.put_clause.new.shelf) (with_held v (set v.held p ys)) (cells_of k c.put_clause.new.ledger) (set l p (soft (k.figures a.amount))) in
-          let put = subst F took.copied (c.put_clause.ensures h) (may_write s p cs q.0 q.1 n) in
+          let put = subst F (c.deref.ensures.0 ∙ took.copied) (c.put_clause.ensures h) (may_write s p cs q.0 q.1 n) in
           granting put.fine s (soft_questions k.scale s p xs cs) (grants (soft_done s p xs cs)) passed refl
           (same_state (soft_sums s.bench xs (k.figures a.total) (k.figures a.proved) cs took.total_is took.proved_is) put.view (put.cells ∙ ap (λ (y : List ℤ). set l p (soft y)) took.amount_is)
           ∙ ap (λ (b : Bool). cond b given (placed given p cs (soft xs))) (sym n));
       refused = tt;
     }
 
-pub returns-else-clause-ne0 : goal.returns-else-clause-ne0
+pub returns-else-not-is_empty : goal.returns-else-not-is_empty
 unfolding soft_does
-returns-else-clause-ne0 g c =
+returns-else-not-is_empty g c =
     let k = g.K.CostKind.kind in
     let v = g.S.Shelf.view c.args.shelf.now in
     let l = cells_of k c.args.ledger.now in
@@ -69,7 +69,7 @@ returns-else-clause-ne0 g c =
     let p = c.args.place in
     let a = c.in_ok-accepted.accepted in
     let given = with_bench s (with_sums s.bench (plus s.bench.total xs) (paid (none cs) (soft xs) s.bench.proved)) in
-    let n = none_given c.args.clause.now c.if-clause-ne0.false in
+    let n = none_given c.args.clause.now c.is_empty.ensures c.if-not-is_empty.false in
     record {
       did = λ h.
           let passed = c.in_ok-accepted.ensures.is h in

@@ -1,5 +1,0 @@
-use Rattle.masks.proofs.Writings.{free_is_zero, one_writing}
-use Rattle.masks.proofs.masks_stand.Goals as goal
-
-pub returns : goal.returns
-returns c = record { free = free_is_zero; same = one_writing }
