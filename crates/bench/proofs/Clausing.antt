@@ -1,8 +1,8 @@
 -- A clause that was copied to scratch memory, asked whether it fits, and written
 -- to a place.
-use Rattle.std.proofs.Common.{◌≡◌, ℕ, ◌<◌, ◌≤◌, Bool, true, false, cond, ◌||◌, eqb, leb, List, [], ◌∷◌, map, length, take, Some, None, sym, refl, ap, ◌∙◌, arith}
-use Rattle.std.proofs.lemmas.List.{length-map, map-id, take_all}
-use Rattle.std.proofs.lemmas.Bool.{lt-leb, le-leb, leb-true, ne_eqb, and_left, and_right, and_from, and_parts}
+use Rattle.std.proofs.Common.{◌≡◌, ℕ, ◌≤◌, Bool, true, false, ◌||◌, eqb, leb, List, [], ◌∷◌, length, take, sym, refl, ap, ◌∙◌, arith}
+use Rattle.std.proofs.lemmas.List.{take_all}
+use Rattle.std.proofs.lemmas.Bool.{leb-true, ne_eqb, and_parts}
 use Rattle.shelf.specs.Literals.{none}
 use Rattle.shelf.specs.Room.{vacant, Writable}
 use Rattle.shelf.specs.View.{View}
@@ -15,26 +15,9 @@ use Rattle.rules.specs.Filling.{ledger_long, clause_fits}
 use Rattle.rules.specs.Questions.{Verdict, passes, reply_of, after_reply}
 use Rattle.steps.proofs.Verdicts.{yes_then}
 
--- a clause that is short enough was copied whole
-pub copied : (ls : List Literal) {L : ℕ} {out : List ℕ} → out ≡ take 255 (codes ls) → length ls ≤ L → L ≤ 255 → out ≡ codes ls
-copied ls e l h = let m : length (codes ls) ≤ 255 = simp length-map (omega arith) in e ∙ take_all 255 (codes ls) m
-
--- the copied codes rise where those of the clause do
-pub rises_copied : (n : ℕ) (v : View) {b : Bool} {top : ℕ} {xs cs : List ℕ} → b ≡ rises top 0 (map (λ c. c) xs) → xs ≡ cs → top ≡ known n v → b ≡ rises (known n v) 0 cs
-rises_copied n v {xs = xs} {cs = cs} b e t = b ∙ ap (rises _ 0) (map-id xs ∙ e) ∙ ap (λ i. rises i 0 cs) t
-
-pub too_long : (n : ℕ) (v : View) (ls : List Literal) → v.longest < length ls → None ≡ cond (clause_fits n v (codes ls)) (Some (codes ls)) None
-too_long n v ls h =
-    let m : v.longest < length (codes ls) = simp length-map h in
-    let f : clause_fits n v (codes ls) ≡ false = and_right (rises (known n v) 0 (codes ls)) (leb (length (codes ls)) v.longest) (lt-leb (length (codes ls)) v.longest m) in
-    sym (ap (λ (b : Bool). cond b (Some (codes ls)) None) f)
-
-pub not_rising : (n : ℕ) (v : View) (cs : List ℕ) → false ≡ rises (known n v) 0 cs → None ≡ cond (clause_fits n v cs) (Some cs) None
-not_rising n v cs e = sym (ap (λ (b : Bool). cond b (Some cs) None) (and_left (rises (known n v) 0 cs) (leb (length cs) v.longest) (sym e)))
-
-pub fitting : (n : ℕ) (v : View) (cs out : List ℕ) → true ≡ rises (known n v) 0 cs → length cs ≤ v.longest → out ≡ cs → Some out ≡ cond (clause_fits n v cs) (Some cs) None
-fitting n v cs out e h o =
-    ap Some o ∙ sym (ap (λ (b : Bool). cond b (Some cs) None) (and_from (rises (known n v) 0 cs) (leb (length cs) v.longest) (sym e) (le-leb (length cs) v.longest h)))
+-- a clause that is short enough is copied whole
+pub copied : (ls : List Literal) {L : ℕ} {out : List ℕ} → out ≡ take 255 (codes ls) → length (codes ls) ≤ L → L ≤ 255 → out ≡ codes ls
+copied ls e l h = e ∙ take_all 255 (codes ls) (omega arith)
 
 pub writable : (n : ℕ) (v : View) (p : ℕ) (cs : List ℕ) → clause_fits n v cs ≡ true → vacant v p ≡ true → Writable v p cs
 writable n v p cs f e =

@@ -1,10 +1,8 @@
 -- What the questions of a call came to, before anything is changed.
 --
---   clause_told    the codes that were copied, where a clause fits
 --   Accepts, SoftTaken    on a grant, what a soft clause comes to
 --   Bills, BillOf         on a grant, the shown plan's cost and count
-use Rattle.std.specs.Prelude.{◌≡◌, ℕ, List, length, ℤ, Some, None, Ok, Err, Option, Result}
-use Rattle.arrayvec.specs.ArrayVec.{ArrayVec}
+use Rattle.std.specs.Prelude.{◌≡◌, ℕ, List, length, ℤ, Ok, Err, Result}
 use Rattle.cost.specs.Figures.{plus}
 use Rattle.faults.specs.declared.fault.Fault.{Fault}
 use Rattle.rules.specs.Cells.{soft, paid}
@@ -12,13 +10,8 @@ use Rattle.rules.specs.Showing.{summed}
 use Rattle.shelf.specs.Literals.{none}
 use Rattle.bench.specs.declared.case.accepted.Accepted.{Accepted}
 
-abbrev pub clause_told : Option (ArrayVec ℕ) → Option (List ℕ)
-clause_told None = None
-clause_told (Some v) = Some v.items
-
 -- on a grant, what a soft clause comes to, by exact figures
 pub record SoftTaken {A : Type 0} (f : A → List ℤ) (cs : List ℕ) (xs total proved : List ℤ) (a : Accepted A) : Type 0 where
-  pub copied : a.codes.items ≡ cs
   pub amount_is : f a.amount ≡ xs
   pub total_is : f a.total ≡ plus total xs
   pub proved_is : f a.proved ≡ paid (none cs) (soft xs) proved

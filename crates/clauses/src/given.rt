@@ -35,15 +35,15 @@ impl Coded for u32 {
     }
 }
 
-// The codes of a clause; of one with more than 255 literals those of the first 255.
-pub fn copy_codes(clause: &[Literal]) -> ClauseCodes
-    ensures { result.items ≡ take 255 (codes_of clause.now) }
+// Puts the codes of a clause into a vector, in the place of what it had; of a clause with more
+// than 255 literals those of the first 255.
+pub fn copy_codes(clause: &[Literal], codes: &mut ClauseCodes)
+    ensures { codes.new.items ≡ take 255 (codes_of clause.now) }
 {
-    let mut codes = ClauseCodes::new();
+    codes.clear();
     for literal in &clause[..clause.len().min(255)] {
         codes.push(literal.code);
     }
-    codes
 }
 
 // The highest variable that a literal may have: at most n, and at most the shelf's.

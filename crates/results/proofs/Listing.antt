@@ -20,7 +20,7 @@ results_spread top p q a b wp wq hp hq ha hb =
     let seconds = where_soft_spread top wq (compensations q a) (compensations_spread top q 0 a hq ha) in
     All-cons (Spread top 2) (merge a b) (where_soft wp (compensations p b) ++ where_soft wq (compensations q a)) first (All-append (Spread top 2) (where_soft wp (compensations p b)) (where_soft wq (compensations q a)) firsts seconds)
 
-length_compensations : (c bs : List ℕ) → length (compensations c bs) ≡ length bs
+pub length_compensations : (c bs : List ℕ) → length (compensations c bs) ≡ length bs
 unfolding compensations
 length_compensations c [] = refl
 length_compensations c (b ∷ bs) = ap suc (length_compensations c bs)

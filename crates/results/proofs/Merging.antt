@@ -1,6 +1,7 @@
 -- What is made of rising lists, code by code: a merge, a filter, and one code put in.
-use Rattle.std.proofs.Common.{◌≡◌, ℕ, suc, ◌+◌, ◌<◌, ◌≤◌, Bool, true, false, cond, not, eqb, ltb, List, [], ◌∷◌, length, filter, refl, ap, arith}
+use Rattle.std.proofs.Common.{◌≡◌, ℕ, suc, ◌+◌, ◌<◌, ◌≤◌, Bool, true, false, cond, not, eqb, ltb, List, [], ◌∷◌, length, get_or, drop, filter, refl, ap, arith}
 use Rattle.std.proofs.lemmas.Bool.{lt-ltb, le-ltb, eq-eqb, ne_eqb}
+use Rattle.std.proofs.lemmas.List.{drop_more}
 use Rattle.std.proofs.lemmas.List.Sums.{prefix_len-le-length}
 use Rattle.std.specs.List.{insert, position, position_or_len}
 use Rattle.std.specs.Option.{unwrap_or}
@@ -18,6 +19,17 @@ merge_same a b as' bs h = let l : b ≤ a = omega arith in rw (le-ltb a b l, eq-
 pub merge_more : (a b : ℕ) (as' bs : List ℕ) → b < a → merge (a ∷ as') (b ∷ bs) ≡ b ∷ merge (a ∷ as') bs
 unfolding merge into
 merge_more a b as' bs h = let l : b ≤ a = omega arith in let n : a ≡ b → ⊥ = λ e. omega arith in rw (le-ltb a b l, ne_eqb a b n)
+
+-- the same of what is left of two lists
+module _ (x y : List ℕ) (i j : ℕ) (hi : i < length x) (hj : j < length y) where
+  pub less_at : get_or x i 0 < get_or y j 0 → merge (drop i x) (drop j y) ≡ get_or x i 0 ∷ merge (drop (i + 1) x) (drop j y)
+  less_at h = rw (drop_more x i 0 hi, drop_more y j 0 hj) (merge_less (get_or x i 0) (get_or y j 0) (drop (i + 1) x) (drop (j + 1) y) h)
+
+  pub same_at : get_or x i 0 ≡ get_or y j 0 → merge (drop i x) (drop j y) ≡ get_or x i 0 ∷ merge (drop (i + 1) x) (drop (j + 1) y)
+  same_at h = rw (drop_more x i 0 hi, drop_more y j 0 hj) (merge_same (get_or x i 0) (get_or y j 0) (drop (i + 1) x) (drop (j + 1) y) h)
+
+  pub more_at : get_or y j 0 < get_or x i 0 → merge (drop i x) (drop j y) ≡ get_or y j 0 ∷ merge (drop i x) (drop (j + 1) y)
+  more_at h = rw (drop_more x i 0 hi, drop_more y j 0 hj) (merge_more (get_or x i 0) (get_or y j 0) (drop (i + 1) x) (drop (j + 1) y) h)
 
 -- once one list is at its end, what is left of both is what is left of the other
 pub merge_left : (xs : List ℕ) → merge xs [] ≡ xs

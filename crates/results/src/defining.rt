@@ -8,6 +8,7 @@ use crate::definition::Definition;
 use crate::placing::place_all;
 use clauses::given::copy_codes;
 use shelf::literal::Literal;
+use shelf::places::ClauseCodes;
 use shelf::store::Shelf;
 
 // Places the results of defining the variable by the literals from `to` on, each
@@ -24,9 +25,10 @@ pub fn place_define<S: Shelf, C: Copy>(
     ensures did { S.fine shelf.old → Definable (S.view shelf.old) variable (literal_codes literals.now) → Placed (S.fine shelf.new) (S.view shelf.old) (S.view shelf.new) to (defining variable (literal_codes literals.now)) m cells.old cells.new }
     ensures framed { S.fine shelf.old → Framed (S.fine shelf.new) (S.view shelf.old) (S.view shelf.new) }
 {
-    let definition = Definition {
+    let mut definition = Definition {
         variable,
-        literals: copy_codes(literals),
+        literals: ClauseCodes::new(),
     };
+    copy_codes(literals, &mut definition.literals);
     place_all(shelf, cells, &definition, to, m);
 }

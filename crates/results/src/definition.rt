@@ -24,14 +24,14 @@ impl Listed for Definition {
     }
 
     // All literals first, then each in turn.
-    fn result(&self, t: usize) -> ResultCodes {
+    fn result(&self, t: usize, codes: &mut ResultCodes) {
         let Some(k) = t.checked_sub(1) else {
-            return put(&self.literals, Literal::not(self.variable).code);
+            return put(&self.literals, Literal::not(self.variable).code, codes);
         };
         let Some(code) = self.literals.get(k) else {
-            return ResultCodes::new();
+            return codes.clear();
         };
         let turned = Literal { code: *code }.opposite().code;
-        put(&[turned], Literal::of(self.variable).code)
+        put(&[turned], Literal::of(self.variable).code, codes);
     }
 }

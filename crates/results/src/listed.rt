@@ -14,7 +14,8 @@ pub(crate) trait Listed {
         ensures low { result ≤ 511 }
         ensures is { result ≡ length (listed self.now) };
 
-    // The t-th result, from 0; empty past the last.
-    fn result(&self, t: usize) -> ResultCodes
-        ensures { result.items ≡ slice_index_or (listed self.now) t [] };
+    // Puts the t-th result, from 0, into a vector, in the place of what it had; empty past the
+    // last.
+    fn result(&self, t: usize, codes: &mut ResultCodes)
+        ensures { codes.new.items ≡ slice_index_or (listed self.now) t [] };
 }

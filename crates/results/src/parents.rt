@@ -20,6 +20,15 @@ pub(crate) struct Parent {
 }
 
 impl Parent {
+    // No clause yet.
+    fn new() -> Parent {
+        Parent {
+            clause: ClauseCodes::new(),
+            rest: ClauseCodes::new(),
+            wanted: false,
+        }
+    }
+
     // How many compensations of this clause are wanted: one for each literal that is
     // left of the other, or none.
     fn compensation_count(&self, other: &Parent) -> usize
@@ -31,11 +40,13 @@ impl Parent {
 
     // One compensation of this clause: the clause with what is left of the other from
     // the k-th literal on, that one turned into its opposite.
-    fn compensation(&self, other: &Parent, k: usize) -> ResultCodes
+    fn compensation(&self, other: &Parent, k: usize, codes: &mut ResultCodes)
         requires { k < length other.now.rest.items }
-        ensures { result.items ≡ union self.now.clause.items (turned (drop k other.now.rest.items)) }
+        ensures { codes.new.items ≡ union self.now.clause.items (turned (drop k other.now.rest.items)) }
     {
-        merge(&self.clause, &turned_from(&other.rest, k))
+        let mut later = ClauseCodes::new();
+        turned_from(&other.rest, k, &mut later);
+        merge(&self.clause, &later, codes);
     }
 }
 
@@ -44,6 +55,16 @@ impl Parent {
 pub(crate) struct Parents {
     pub first: Parent,
     pub second: Parent,
+}
+
+impl Parents {
+    // No clauses yet.
+    pub(crate) fn new() -> Parents {
+        Parents {
+            first: Parent::new(),
+            second: Parent::new(),
+        }
+    }
 }
 
 impl Listed for Parents {
@@ -56,18 +77,18 @@ impl Listed for Parents {
     }
 
     // The union first, then the compensations of the first clause, then the second's.
-    fn result(&self, t: usize) -> ResultCodes {
+    fn result(&self, t: usize, codes: &mut ResultCodes) {
         let Some(k) = t.checked_sub(1) else {
-            return merge(&self.first.rest, &self.second.rest);
+            return merge(&self.first.rest, &self.second.rest, codes);
         };
         let firsts = self.first.compensation_count(&self.second);
         if k < firsts {
-            return self.first.compensation(&self.second, k);
+            return self.first.compensation(&self.second, k, codes);
         }
         let k = k - firsts;
         if k < self.second.compensation_count(&self.first) {
-            return self.second.compensation(&self.first, k);
+            return self.second.compensation(&self.first, k, codes);
         }
-        ResultCodes::new()
+        codes.clear();
     }
 }

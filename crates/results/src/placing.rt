@@ -5,7 +5,7 @@ ghost use Rattle.rules.specs.Results.{kept};
 ghost use Rattle.results.specs.Placing.{Framed, Placeable, Placed};
 ghost use Rattle.results.specs.Spread.{AllSpread, Spread};
 
-use crate::codes::clashes;
+use crate::codes::{ResultCodes, clashes};
 use crate::listed::Listed;
 use ledger::cells::put_cell;
 use shelf::places::write_codes;
@@ -46,8 +46,9 @@ pub(crate) fn place_all<S: Shelf, C: Copy, R: Listed>(
     ensures framed { S.fine shelf.old → Framed (S.fine shelf.new) (S.view shelf.old) (S.view shelf.new) }
 {
     let mut place = to;
+    let mut codes = ResultCodes::new();
     for t in 0..rs.count() {
-        let codes = rs.result(t);
+        rs.result(t, &mut codes);
         place = place_one(shelf, cells, &codes, place, m);
     }
 }

@@ -31,31 +31,36 @@ pub struct Pairing {
     pub with_j: bool,
 }
 
-// The clause at a place, and what is left of it without a literal.
-fn read_parent<S: Shelf>(shelf: &S, place: usize, literal: Literal, wanted: bool) -> Parent
-    ensures whole { S.fine shelf.now → result.clause.items ≡ clause (S.view shelf.now) place }
-    ensures rest { result.rest.items ≡ left_without literal.code result.clause.items }
-    ensures wanted { result.wanted ≡ wanted }
+// Reads the clause at a place, and what is left of it without a literal.
+fn read_parent<S: Shelf>(shelf: &S, place: usize, literal: Literal, parent: &mut Parent)
+    ensures whole { S.fine shelf.now → parent.new.clause.items ≡ clause (S.view shelf.now) place }
+    ensures rest { parent.new.rest.items ≡ left_without literal.code parent.new.clause.items }
+    ensures wanted { parent.new.wanted ≡ parent.old.wanted }
 {
-    let clause = read_codes(shelf, place);
-    let rest = without(&clause, literal.code);
-    Parent {
-        clause,
-        rest,
-        wanted,
-    }
+    read_codes(shelf, place, &mut parent.clause);
+    without(&parent.clause, literal.code, &mut parent.rest);
 }
 
 impl Pairing {
-    // The clauses at both places.
-    fn parents<S: Shelf>(self, shelf: &S) -> Parents
-        ensures is { S.fine shelf.now → results_of result ≡ resolvents_at (S.view shelf.now) self.i self.j self.variable self.with_i self.with_j }
-        ensures spread { S.fine shelf.now → AllSpread (S.view shelf.now).highest (results_of result) }
+    // Reads the clauses at both places.
+    fn read_parents<S: Shelf>(self, shelf: &S, parents: &mut Parents)
+        ensures is { S.fine shelf.now → results_of parents.new ≡ resolvents_at (S.view shelf.now) self.i self.j self.variable self.with_i self.with_j }
+        ensures spread { S.fine shelf.now → AllSpread (S.view shelf.now).highest (results_of parents.new) }
     {
-        Parents {
-            first: read_parent(shelf, self.i, Literal::of(self.variable), self.with_i),
-            second: read_parent(shelf, self.j, Literal::not(self.variable), self.with_j),
-        }
+        parents.first.wanted = self.with_i;
+        parents.second.wanted = self.with_j;
+        read_parent(
+            shelf,
+            self.i,
+            Literal::of(self.variable),
+            &mut parents.first,
+        );
+        read_parent(
+            shelf,
+            self.j,
+            Literal::not(self.variable),
+            &mut parents.second,
+        );
     }
 
     // Counts the results of resolving the places on the variable, with the
@@ -64,7 +69,9 @@ impl Pairing {
         ensures low { result.kept ≤ 511 }
         ensures is { S.fine shelf.now → result ≡ tally_of (S.view shelf.now).longest (resolvents_at (S.view shelf.now) self.i self.j self.variable self.with_i self.with_j) }
     {
-        survey(&self.parents(shelf), shelf.longest_clause())
+        let mut parents = Parents::new();
+        self.read_parents(shelf, &mut parents);
+        survey(&parents, shelf.longest_clause())
     }
 
     // Places those results from `to` on, each with the cell m. Where they are not
@@ -74,7 +81,8 @@ impl Pairing {
         ensures did { S.fine shelf.old → Placed (S.fine shelf.new) (S.view shelf.old) (S.view shelf.new) to (resolvents_at (S.view shelf.old) self.i self.j self.variable self.with_i self.with_j) m cells.old cells.new }
         ensures framed { S.fine shelf.old → Framed (S.fine shelf.new) (S.view shelf.old) (S.view shelf.new) }
     {
-        let parents = self.parents(shelf);
+        let mut parents = Parents::new();
+        self.read_parents(shelf, &mut parents);
         place_all(shelf, cells, &parents, to, m);
     }
 }

@@ -4,7 +4,7 @@ ghost use Rattle.std.specs.Prelude.{◌≡◌, ℕ, ◌+◌, ◌<◌, ◌≤◌}
 ghost use Rattle.results.specs.Counting.{tally_of, tally_one};
 ghost use Rattle.results.specs.Spread.{AllSpread, Spread};
 
-use crate::codes::clashes;
+use crate::codes::{ResultCodes, clashes};
 use crate::listed::Listed;
 
 // How many results take places, whether one is empty, and whether each that does
@@ -45,8 +45,10 @@ pub(crate) fn survey<R: Listed>(rs: &R, longest: usize) -> Tally
         empty: false,
         short: true,
     };
+    let mut codes = ResultCodes::new();
     for t in 0..rs.count() {
-        tally.note(&rs.result(t), longest);
+        rs.result(t, &mut codes);
+        tally.note(&codes, longest);
     }
     tally
 }

@@ -8,7 +8,7 @@ use Rattle.std.proofs.lemmas.List.Recursion.{or_at, or_from_places}
 use Rattle.std.proofs.lemmas.Bool.{lt-ltb, le-ltb, ne_eqb, eq-eqb, eqb-false, ltb-true, ltb-false, or_parts, cases_lt, cond-true, cond-false, cond_both}
 use Rattle.shelf.specs.Literals.{Rising, put, stands, among}
 
-put_at : (cs : List ℕ) (c k : ℕ) → k ≤ length cs → ((j : ℕ) → j < k → get_or cs j 0 / 2 < c / 2) → (k < length cs → c / 2 < get_or cs k 0 / 2) → put c cs ≡ insert cs k c
+pub put_at : (cs : List ℕ) (c k : ℕ) → k ≤ length cs → ((j : ℕ) → j < k → get_or cs j 0 / 2 < c / 2) → (k < length cs → c / 2 < get_or cs k 0 / 2) → put c cs ≡ insert cs k c
 unfolding put
 put_at [] c zero le below above = refl
 put_at [] c (suc k) le below above = absurd (omega arith)

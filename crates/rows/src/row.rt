@@ -38,7 +38,9 @@ impl<'a> Row<'a> {
         &self.words[1..self.words[0] as usize + 1]
     }
 
-    // Whether the row has the literal.
+    // Whether the row has the literal. Never inlined: the search compares many codes at a time
+    // and is long code, so that with it a caller is too long to be inlined itself.
+    #[inline(never)]
     #[tactic(auto, using(crate::proofs::Puts::among_any))]
     pub(crate) fn has(&self, literal: Literal) -> bool
         ensures { result ≡ among literal.code (codes_of self.now.words.now) }

@@ -3,7 +3,9 @@ ghost use Rattle.std.specs.Prelude.{MatchOption};
 ghost use Rattle.shelf.specs.Memory.{Starts, StartsNowhere};
 
 // The first of the words of a place, unless there is no such place or its words pass the
-// end. Any width may be asked for, and so each sum is checked.
+// end. Any width may be asked for, and so each sum is checked: inlined where the width is known
+// to be small, neither can pass the range, and one product and one comparison are left.
+#[inline]
 pub fn place_start(place: usize, places: u16, width: usize, words: usize) -> Option<usize>
     ensures { MatchOption result (StartsNowhere places width words place) (λ at. Starts places width words place at) }
 {
@@ -11,7 +13,7 @@ pub fn place_start(place: usize, places: u16, width: usize, words: usize) -> Opt
         return None;
     }
     let at = place.checked_mul(width)?;
-    if words.checked_sub(at)? < width {
+    if at.checked_add(width)? > words {
         return None;
     }
     Some(at)

@@ -60,15 +60,15 @@ pub fn has_room<S: Shelf>(shelf: &S, to: usize, n: usize) -> bool
     (to..to + n).all(|place| shelf.size(place) == 0)
 }
 
-// The codes of a place.
-pub fn read_codes<S: Shelf>(shelf: &S, place: usize) -> ClauseCodes
-    ensures { S.fine shelf.now → result.items ≡ clause (S.view shelf.now) place }
+// Puts the codes of a place into a vector, in the place of what it had. It is lent, here and
+// wherever codes are made: one that is returned is filled with zeros and moved each time.
+pub fn read_codes<S: Shelf>(shelf: &S, place: usize, codes: &mut ClauseCodes)
+    ensures { S.fine shelf.now → codes.new.items ≡ clause (S.view shelf.now) place }
 {
-    let mut codes = ClauseCodes::new();
+    codes.clear();
     for k in 0..shelf.size(place) {
         codes.push(shelf.literal(place, k).code);
     }
-    codes
 }
 
 // Adds the codes to a place, one after another; a code that is refused is passed over.

@@ -47,7 +47,7 @@ module _ (v : View) (n to : ℕ) (ls : List ℕ) where
     next : n + 1 ≤ v.highest
     new : stands (n + 1) ls ≡ false
 
-  fitted : (length ls ≡ 0 → ⊥) → true ≡ rises (known n v) 0 ls → n < v.highest → fits ≡ true
+  pub fitted : (length ls ≡ 0 → ⊥) → true ≡ rises (known n v) 0 ls → n < v.highest → fits ≡ true
   fitted h e l =
       and_from (not (none ls)) (rises (known n v) 0 ls && ltb n v.highest) (some_codes ls h) (and_from (rises (known n v) 0 ls) (ltb n v.highest) (sym e) (lt-ltb n v.highest l))
 

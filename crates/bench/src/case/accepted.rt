@@ -1,10 +1,8 @@
 // What a soft clause comes to, once all its questions are asked.
-use shelf::places::ClauseCodes;
 
-// Its codes, its amount, the total with it, and the proved cost.
-#[derive(Drop)]
+// Its amount, the total with it, and the proved cost.
+#[derive(Clone, Copy)]
 pub(crate) struct Accepted<A> {
-    pub codes: ClauseCodes,
     pub amount: A,
     pub total: A,
     pub proved: A,

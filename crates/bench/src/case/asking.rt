@@ -1,21 +1,19 @@
 // Questions that several calls are put.
-ghost use Rattle.std.specs.Prelude.{◌≡◌, [], ◌∷◌, length, if◌then◌else◌, Some, None, nat_le};
+ghost use Rattle.std.specs.Prelude.{◌≡◌, [], ◌∷◌, length, nat_le};
 ghost use Rattle.clauses.specs.Codes.{codes as codes_of};
 ghost use Rattle.faults.specs.Faults.{verdict_told};
 ghost use Rattle.ledger.specs.Meaning.{cells_of};
 ghost use Rattle.rules.specs.Case.{at_filling};
 ghost use Rattle.rules.specs.Filling.{clause_fits};
 ghost use Rattle.rules.specs.Questions.{asks, first_no};
-ghost use Rattle.bench.specs.Asked.{clause_told};
 ghost use Rattle.bench.specs.Meaning.{phase_of};
 
 use crate::case::Phase;
-use clauses::given::{copy_codes, known_variables, rises};
+use clauses::given::{known_variables, rises};
 use cost::kind::CostKind;
 use faults::fault::Fault;
 use ledger::cell::Cell;
 use shelf::literal::Literal;
-use shelf::places::ClauseCodes;
 use shelf::store::Shelf;
 
 // Question 1: whether the ledger has a cell for each place.
@@ -52,17 +50,10 @@ pub(crate) fn is_filling(phase: Phase) -> bool
     phase == Phase::Filling
 }
 
-// Question 4: the codes of a clause, if its variables rise, each from 1 to n, and are
-// not too many for a place.
-pub(crate) fn take_clause<S: Shelf>(shelf: &S, n: u16, clause: &[Literal]) -> Option<ClauseCodes>
-    ensures { S.fine shelf.now → clause_told result ≡ (if clause_fits n (S.view shelf.now) (codes_of clause.now) then Some (codes_of clause.now) else None) }
+// Question 4: whether the variables of a clause rise, each from 1 to n, and are not too many
+// for a place. Its codes are copied once it is granted, where it is written.
+pub(crate) fn takes_clause<S: Shelf>(shelf: &S, n: u16, clause: &[Literal]) -> bool
+    ensures { S.fine shelf.now → result ≡ clause_fits n (S.view shelf.now) (codes_of clause.now) }
 {
-    if clause.len() > shelf.longest_clause() {
-        return None;
-    }
-    let codes = copy_codes(clause);
-    if !rises(&codes, known_variables(shelf, n)) {
-        return None;
-    }
-    Some(codes)
+    clause.len() <= shelf.longest_clause() && rises(clause, known_variables(shelf, n))
 }

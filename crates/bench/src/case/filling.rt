@@ -1,5 +1,5 @@
 // Filling a case: open, hard, soft and seal.
-ghost use Rattle.std.specs.Prelude.{◌≡◌, length, replicate, IfOk, slice_set, OnErr, OnOk};
+ghost use Rattle.std.specs.Prelude.{◌≡◌, length, replicate, slice_set, OnErr, OnOk};
 ghost use Rattle.clauses.specs.Codes.{codes as codes_of};
 ghost use Rattle.cost.specs.Figures.{zeros};
 ghost use Rattle.cost.specs.Kinds.{Kind};
@@ -16,8 +16,9 @@ ghost use Rattle.faults.specs.Faults.{verdict_told};
 ghost use Rattle.bench.specs.Meaning.{case_of, state_at, granted_told, Done};
 
 use crate::case::accepted::Accepted;
-use crate::case::asking::{ask_state, is_filling, ledger_is_long_enough, take_clause};
+use crate::case::asking::{ask_state, is_filling, ledger_is_long_enough, takes_clause};
 use crate::case::{Bench, Phase};
+use clauses::given::copy_codes;
 use cost::kind::CostKind;
 use faults::fault::Fault;
 use ledger::amounts::take_amount;
@@ -33,12 +34,14 @@ fn put_clause<K: CostKind, S: Shelf>(
     shelf: &mut S,
     ledger: &mut [Cell<K::Row>],
     place: usize,
-    codes: &[u32],
+    clause: &[Literal],
     cell: Cell<K::Amount>,
 )
-    ensures { S.fine shelf.old → Writable (S.view shelf.old) place codes.now → Laid (S.fine shelf.new) (S.view shelf.new) (with_held (S.view shelf.old) (slice_set (S.view shelf.old).held place codes.now)) (cells_of K.kind ledger.new) (slice_set (cells_of K.kind ledger.old) place (cell_of K.kind.figures cell)) }
+    ensures { S.fine shelf.old → Writable (S.view shelf.old) place (codes_of clause.now) → Laid (S.fine shelf.new) (S.view shelf.new) (with_held (S.view shelf.old) (slice_set (S.view shelf.old).held place (codes_of clause.now))) (cells_of K.kind ledger.new) (slice_set (cells_of K.kind ledger.old) place (cell_of K.kind.figures cell)) }
 {
-    write_codes(shelf, place, codes);
+    let mut codes = ClauseCodes::new();
+    copy_codes(clause, &mut codes);
+    write_codes(shelf, place, &codes);
     write_cell::<K>(ledger, place, cell);
 }
 
@@ -98,23 +101,24 @@ impl<K: CostKind> Bench<K> {
         Ok(())
     }
 
-    // What hard and soft are both asked; the clause's codes.
+    // What hard and soft are both asked.
     fn ask_clause<S: Shelf>(
         &self,
         shelf: &S,
         ledger: &[Cell<K::Row>],
         place: usize,
         clause: &[Literal],
-    ) -> Result<ClauseCodes, Fault>
-        ensures is { S.fine shelf.now → verdict_told result ≡ first_no (clause_questions (state_at K.kind S.view self.now shelf.now ledger.now) place (codes_of clause.now)) }
-        ensures copied { S.fine shelf.now → IfOk result (λ codes. codes.items ≡ codes_of clause.now) }
+    ) -> Result<(), Fault>
+        ensures { S.fine shelf.now → verdict_told result ≡ first_no (clause_questions (state_at K.kind S.view self.now shelf.now ledger.now) place (codes_of clause.now)) }
     {
         ask_state::<K, S>(shelf, ledger, is_filling(self.phase))?;
-        let codes = take_clause(shelf, self.n, clause).ok_or(Fault::ClauseUnfit)?;
-        if !codes.is_empty() && !is_vacant(shelf, place) {
+        if !takes_clause(shelf, self.n, clause) {
+            return Err(Fault::ClauseUnfit);
+        }
+        if !clause.is_empty() && !is_vacant(shelf, place) {
             return Err(Fault::PlaceUnfit);
         }
-        Ok(codes)
+        Ok(())
     }
 
     // Gives a clause that must be met. An empty one sets the impossible mark and uses
@@ -129,11 +133,11 @@ impl<K: CostKind> Bench<K> {
         ensures did { S.fine shelf.old → Done (S.fine shelf.new) (granted_told result) (state_at K.kind S.view self.new shelf.new ledger.new) (hard_does K.kind.scale (state_at K.kind S.view self.old shelf.old ledger.old) place (codes_of clause.now)) }
         ensures refused { OnErr result ((self.new ≡ self.old) × (shelf.new ≡ shelf.old) × (ledger.new ≡ ledger.old)) }
     {
-        let codes = self.ask_clause(shelf, ledger, place, clause)?;
+        self.ask_clause(shelf, ledger, place, clause)?;
         if clause.is_empty() {
             self.impossible = true;
         } else {
-            put_clause::<K, S>(shelf, ledger, place, &codes, Cell::Hard);
+            put_clause::<K, S>(shelf, ledger, place, clause, Cell::Hard);
         }
         Ok(())
     }
@@ -149,11 +153,10 @@ impl<K: CostKind> Bench<K> {
         ensures is { S.fine shelf.now → verdict_told result ≡ first_no (soft_questions K.kind.scale (state_at K.kind S.view self.now shelf.now ledger.now) place figures.now (codes_of clause.now)) }
         ensures accepted { S.fine shelf.now → Accepts K.kind.figures (codes_of clause.now) figures.now (K.kind.figures self.now.total) (K.kind.figures self.now.proved) result }
     {
-        let codes = self.ask_clause(shelf, ledger, place, clause)?;
+        self.ask_clause(shelf, ledger, place, clause)?;
         let (amount, total) = take_amount::<K>(figures, self.total).ok_or(Fault::AmountUnfit)?;
         let proved = paid::<K>(self.proved, clause.is_empty(), Cell::Soft(amount))?;
         Ok(Accepted {
-            codes,
             amount,
             total,
             proved,
@@ -177,13 +180,7 @@ impl<K: CostKind> Bench<K> {
         self.total = accepted.total;
         self.proved = accepted.proved;
         if !clause.is_empty() {
-            put_clause::<K, S>(
-                shelf,
-                ledger,
-                place,
-                &accepted.codes,
-                Cell::Soft(accepted.amount),
-            );
+            put_clause::<K, S>(shelf, ledger, place, clause, Cell::Soft(accepted.amount));
         }
         Ok(())
     }

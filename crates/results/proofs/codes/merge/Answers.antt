@@ -1,17 +1,17 @@
 use Rattle.std.proofs.Common.{arith}
-use Rattle.std.proofs.lemmas.List.{take_rest}
 use Rattle.std.proofs.lemmas.Grind.{common_steps}
-use Rattle.results.proofs.Merging.{merge_less, merge_same, merge_more, merge_left, merge_right}
+use Rattle.std.proofs.lemmas.List.{drop_all}
+use Rattle.results.proofs.Merging.{less_at, same_at, more_at, merge_left, merge_right}
 use Rattle.results.proofs.codes.merge.Goals as goal
 
-pub loop-xs-preserved-in-Less : goal.loop-xs-preserved-in-Less
-loop-xs-preserved-in-Less c = grind (arith, common_steps, merge_less, take_rest)
+pub loop-i-preserved-then-a-b : goal.loop-i-preserved-then-a-b
+loop-i-preserved-then-a-b c = grind (arith, common_steps, less_at)
 
-pub loop-xs-preserved-in-Equal : goal.loop-xs-preserved-in-Equal
-loop-xs-preserved-in-Equal c = grind (arith, common_steps, merge_same, take_rest)
+pub loop-i-preserved-then-a-b-2 : goal.loop-i-preserved-then-a-b-2
+loop-i-preserved-then-a-b-2 c = grind (arith, common_steps, same_at)
 
-pub loop-xs-preserved : goal.loop-xs-preserved
-loop-xs-preserved c = grind (arith, common_steps, merge_more, take_rest)
+pub loop-i-preserved : goal.loop-i-preserved
+loop-i-preserved c = grind (arith, common_steps, more_at)
 
 pub returns : goal.returns
-returns c = grind (arith, common_steps, merge_left, merge_right)
+returns c = grind (arith, common_steps, merge_left, merge_right, drop_all)

@@ -14,7 +14,7 @@ returns-clause-did g c h a b =
     let ls = c.args.literals.now in
     let low = (g.S.Shelf.sound _ h).longest_high in
     let short = a.short in
-    let e : c.copy_codes.result.items ≡ codes ls = c.copy_codes.ensures ∙ take_all 255 (codes ls) (omega arith) in
+    let e : c.copy_codes.new.codes.items ≡ codes ls = c.copy_codes.ensures ∙ take_all 255 (codes ls) (omega arith) in
     let spread = subst (λ (xs : List ℕ). AllSpread v.highest (defining d xs)) (sym e) (defining_spread v.highest d a.some a.known (codes ls) a.rises a.new) in
     let may = subst (λ (xs : List ℕ). Placeable v c.args.to (defining d xs)) (sym e) b in
     rw (← e) (c.place_all.ensures.did h spread may)

@@ -23,7 +23,7 @@ loop-t-preserved g c h =
       λ s a.
           let l : t < length rs = omega arith in
           let r = get_or rs t [] in
-          let e : c.deref.result.now ≡ r = c.deref.ensures.0 ∙ c.result-codes.ensures in
+          let e : c.deref.result.now ≡ r = c.deref.ensures.0 ∙ c.result.ensures in
           let j = i.1 s a in
           let parts : rs ≡ take t rs ++ r ∷ drop (t + 1) rs = sym (take-append-drop t rs) ∙ ap (λ zs. take t rs ++ zs) (drop_more rs t [] l) in
           let spread : Spread w.highest 2 r = rw j.1.view (s t [] l) in

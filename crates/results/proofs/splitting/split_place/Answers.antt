@@ -15,7 +15,7 @@ returns g c =
           let a = c.add.ensures.did h in
           let b = c.write_codes.ensures in
           let d = c.add-2.ensures.did (b.did a.fine).fine in
-          halved v p x to (g.S.Shelf.sound _ h) may (c.deref.ensures.0 ∙ c.read_codes-codes.ensures h) c.of.ensures c.not.ensures a.view (b.whole a.fine) d.view;
+          halved v p x to (g.S.Shelf.sound _ h) may (c.deref.ensures.0 ∙ c.read_codes.ensures h) c.of.ensures c.not.ensures a.view (b.whole a.fine) d.view;
       framed = λ h.
           let a = c.add.ensures.did h in
           let b = c.write_codes.ensures.did a.fine in

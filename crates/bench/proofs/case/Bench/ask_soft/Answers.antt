@@ -10,15 +10,15 @@ use Rattle.bench.proofs.Softly.{was_taken, soft_stop, soft_out, soft_pass}
 use Rattle.steps.proofs.Verdicts.{test_some}
 use Rattle.bench.proofs.case.Bench.ask_soft.Goals as goal
 
-pub returns-in_err-codes : goal.returns-in_err-codes
-returns-in_err-codes g c =
+pub returns-in_err-ask_clause : goal.returns-in_err-ask_clause
+returns-in_err-ask_clause g c =
     let k = g.K.CostKind.kind in
     let s = state_of k c.args.self.now (g.S.Shelf.view c.args.shelf.now) c.args.ledger.now in
     let xs = c.args.figures.now in
     let cs = codes c.args.clause.now in
     let p = err_from_is_err_and c.from_residual.result c.from_residual.ensures.1 in
     rw (p.1, p.2) (record {
-      is = λ h. soft_stop k.scale s c.args.place xs cs _ _ (c.in_err-codes.ensures.is h);
+      is = λ h. soft_stop k.scale s c.args.place xs cs _ _ (c.in_err-ask_clause.ensures h);
       accepted = λ h. tt;
     })
 
@@ -33,7 +33,7 @@ returns-in_err-proved g c =
     let e = c.is_empty.result in
     rw (p.1, p.2) (record {
       is = λ h.
-          soft_out k.scale s c.args.place xs cs (c.in_ok-codes.ensures.is h) t.0 (k.figures c.in_ok-amount.amount) e (ap (λ (y : Taken). y.amount) t.1) (c.is_empty.ensures ∙ empty_test c.args.clause.now) _ c.in_err-proved.ensures;
+          soft_out k.scale s c.args.place xs cs (c.in_ok-ask_clause.ensures h) t.0 (k.figures c.in_ok-amount.amount) e (ap (λ (y : Taken). y.amount) t.1) (c.is_empty.ensures ∙ empty_test c.args.clause.now) _ c.in_err-proved.ensures;
       accepted = λ h. tt;
     })
 
@@ -47,12 +47,11 @@ returns g c =
     let e = c.is_empty.result in
     record {
       is = λ h.
-          (soft_pass k.scale s c.args.place xs cs (c.in_ok-codes.ensures.is h) t.0 (k.figures c.in_ok-amount.amount) e (ap (λ (y : Taken). y.amount) t.1) (c.is_empty.ensures ∙ empty_test c.args.clause.now) _ c.in_ok-proved.ensures).0;
+          (soft_pass k.scale s c.args.place xs cs (c.in_ok-ask_clause.ensures h) t.0 (k.figures c.in_ok-amount.amount) e (ap (λ (y : Taken). y.amount) t.1) (c.is_empty.ensures ∙ empty_test c.args.clause.now) _ c.in_ok-proved.ensures).0;
       accepted = λ h. record {
-        copied = c.in_ok-codes.ensures.copied h;
         amount_is = ap (λ (y : Taken). y.amount) t.1;
         total_is = ap (λ (y : Taken). y.total) t.1;
         proved_is =
-            (soft_pass k.scale s c.args.place xs cs (c.in_ok-codes.ensures.is h) t.0 (k.figures c.in_ok-amount.amount) e (ap (λ (y : Taken). y.amount) t.1) (c.is_empty.ensures ∙ empty_test c.args.clause.now) _ c.in_ok-proved.ensures).1;
+            (soft_pass k.scale s c.args.place xs cs (c.in_ok-ask_clause.ensures h) t.0 (k.figures c.in_ok-amount.amount) e (ap (λ (y : Taken). y.amount) t.1) (c.is_empty.ensures ∙ empty_test c.args.clause.now) _ c.in_ok-proved.ensures).1;
       };
     }

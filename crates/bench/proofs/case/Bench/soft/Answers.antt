@@ -1,15 +1,12 @@
-use Rattle.std.proofs.Common.{ℕ, Bool, cond, List, set, ℤ, sym, refl, ap, ◌∙◌, subst}
+use Rattle.std.proofs.Common.{Bool, cond, List, set, ℤ, sym, refl, ap, ◌∙◌}
 use Rattle.std.proofs.lemmas.Result.{err_from_is_err_and}
 use Rattle.clauses.specs.Codes.{codes}
 use Rattle.shelf.specs.Literals.{none}
-use Rattle.shelf.specs.Room.{Writable}
-use Rattle.shelf.specs.View.{with_held}
 use Rattle.cost.specs.Figures.{plus}
 use Rattle.ledger.specs.Meaning.{cells_of}
 use Rattle.rules.specs.Cells.{soft, paid}
 use Rattle.rules.specs.Filling.{with_bench, with_sums, placed, soft_questions, soft_done, soft_does}
 use Rattle.rules.specs.Questions.{grants}
-use Rattle.results.specs.Placing.{Laid}
 use Rattle.bench.specs.Meaning.{state_of}
 use Rattle.bench.proofs.Clausing.{none_given, some_given, clause_passed, may_write}
 use Rattle.bench.proofs.Doing.{refusing, granting, same_state}
@@ -47,10 +44,7 @@ returns-then-not-is_empty g c =
           let passed = c.in_ok-accepted.ensures.is h in
           let took = c.in_ok-accepted.ensures.accepted h in
           let q = clause_passed s p cs _ passed in
-          let F : List ℕ → Type 0 = λ ys.
-          Writable v p ys
-          → Laid (g.S.Shelf.fine c.put_clause.new.shelf) (g.S.Shelf.view c.put_clause.new.shelf) (with_held v (set v.held p ys)) (cells_of k c.put_clause.new.ledger) (set l p (soft (k.figures a.amount))) in
-          let put = subst F (c.deref.ensures.0 ∙ took.copied) (c.put_clause.ensures h) (may_write s p cs q.0 q.1 n) in
+          let put = c.put_clause.ensures h (may_write s p cs q.0 q.1 n) in
           granting put.fine s (soft_questions k.scale s p xs cs) (grants (soft_done s p xs cs)) passed refl
           (same_state (soft_sums s.bench xs (k.figures a.total) (k.figures a.proved) cs took.total_is took.proved_is) put.view (put.cells ∙ ap (λ (y : List ℤ). set l p (soft y)) took.amount_is)
           ∙ ap (λ (b : Bool). cond b given (placed given p cs (soft xs))) (sym n));

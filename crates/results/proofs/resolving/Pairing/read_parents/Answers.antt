@@ -1,5 +1,5 @@
 use Rattle.results.proofs.Reading.{read_spread}
-use Rattle.results.proofs.resolving.Pairing.parents.Goals as goal
+use Rattle.results.proofs.resolving.Pairing.read_parents.Goals as goal
 
 pub returns-clause-spread : goal.returns-clause-spread
 returns-clause-spread g c h =
