@@ -1,5 +1,5 @@
--- A clause that was copied to scratch memory, asked whether it fits, and written
--- to a place.
+-- A clause that is given: asked whether it fits, copied to scratch memory, and written to a
+-- place.
 use Rattle.std.proofs.Common.{◌≡◌, ℕ, ◌≤◌, Bool, true, false, ◌||◌, eqb, leb, List, [], ◌∷◌, length, take, sym, refl, ap, ◌∙◌, arith}
 use Rattle.std.proofs.lemmas.List.{take_all}
 use Rattle.std.proofs.lemmas.Bool.{leb-true, ne_eqb, and_parts}

@@ -1,4 +1,4 @@
-use Rattle.std.proofs.Common.{◌≡◌, ℕ, List, set, ◌∙◌, subst}
+use Rattle.std.proofs.Common.{◌≡◌, ℕ, List, set, ◌∙◌, subst, rules}
 use Rattle.clauses.specs.Codes.{codes}
 use Rattle.shelf.specs.Room.{Writable}
 use Rattle.shelf.specs.View.{with_held}
@@ -14,5 +14,5 @@ returns g c h w =
     record {
       fine = (c.write_codes.ensures.did h).fine;
       view = subst F e (c.write_codes.ensures.whole h) w;
-      cells = c.write_cell.ensures.means;
+      cells = search rules;
     }
