@@ -1,7 +1,6 @@
 -- Questions put to the items of a list by their indices.
-use Rattle.std.proofs.Common.{◌≡◌, ℕ, suc, ◌+◌, ◌<◌, Bool, ◌&&◌, ◌||◌, eqb, leb, List, [], ◌∷◌, length, get_or, sym, refl, ap, ap₂, ◌∙◌, arith}
+use Rattle.std.proofs.Common.{◌≡◌, ℕ, suc, ◌+◌, ◌<◌, Bool, ◌&&◌, ◌||◌, leb, List, [], ◌∷◌, length, get_or, sym, refl, ap, ap₂, ◌∙◌, arith}
 use Rattle.std.specs.List.{list_all, list_any, range_with_len}
-use Rattle.rules.specs.Clauses.{same_codes}
 use Rattle.rules.specs.Plans.{makes_true, meets, bits}
 
 -- the item after the first
@@ -24,16 +23,3 @@ module _ (x : List ℕ) where
 
   pub meets_any : (cs : List ℕ) → list_any (λ k. makes_true x (get_or cs k 0)) (range_with_len 0 (length cs)) ≡ meets x cs
   meets_any cs = met_from cs 0 (λ k. makes_true x (get_or cs k 0)) (λ k l. let e : 0 + k ≡ k = omega arith in ap (λ (j : ℕ). makes_true x (get_or cs j 0)) e)
-
-same_from : (xs ys : List ℕ) (a : ℕ) (q : ℕ → Bool) → length xs ≡ length ys → ((k : ℕ) → k < length xs → q (a + k) ≡ eqb (get_or xs k 0) (get_or ys k 0)) → list_all q (range_with_len a (length xs)) ≡ same_codes xs ys
-unfolding same_codes
-same_from [] [] a q e h = refl
-same_from [] (y ∷ ys) a q e h = absurd (omega arith)
-same_from (x ∷ xs) [] a q e h = absurd (omega arith)
-same_from (x ∷ xs) (y ∷ ys) a q e h =
-    let z : a + 0 ≡ a = omega arith in
-    ap₂ (λ s t. s && t) (ap q (sym z) ∙ h 0 (omega arith))
-    (same_from xs ys (a + 1) q (omega arith) (λ k l. let e : a + 1 + k ≡ a + (k + 1) = omega arith in ap q e ∙ h (k + 1) (omega arith) ∙ ap₂ eqb (after x xs k 0) (after y ys k 0)))
-
-pub same_all : (xs ys : List ℕ) → length xs ≡ length ys → list_all (λ k. eqb (get_or xs k 0) (get_or ys k 0)) (range_with_len 0 (length xs)) ≡ same_codes xs ys
-same_all xs ys n = same_from xs ys 0 (λ k. eqb (get_or xs k 0) (get_or ys k 0)) n (λ k l. let e : 0 + k ≡ k = omega arith in ap (λ (j : ℕ). eqb (get_or xs j 0) (get_or ys j 0)) e)

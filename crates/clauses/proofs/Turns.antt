@@ -1,8 +1,8 @@
 -- One turn of each loop over a list: what is left of the list still decides what
 -- the whole did.
-use Rattle.std.proofs.Common.{◌≡◌, ℕ, min, map, take, suc, ◌+◌, ◌/◌, ◌<◌, ◌≤◌, Bool, true, false, ◌&&◌, eqb, ltb, leb, List, [], ◌∷◌, length, get_or, drop, sym, refl, ap, ◌∙◌, arith}
+use Rattle.std.proofs.Common.{◌≡◌, ℕ, min, map, take, suc, ◌+◌, ◌/◌, ◌<◌, ◌≤◌, Bool, true, false, ◌&&◌, eqb, ltb, leb, List, [], ◌∷◌, length, get_or, drop, sym, refl, ap, ap₂, ◌∙◌, arith}
 use Rattle.std.proofs.lemmas.List.{drop_more, drop_all, get_or-map, length-map, take_min}
-use Rattle.std.proofs.lemmas.Bool.{lt-ltb, le-ltb, le-leb, lt-leb, and_left, and_right, and_parts, leb-true, ltb-true}
+use Rattle.std.proofs.lemmas.Bool.{lt-ltb, le-ltb, le-leb, lt-leb, eq-eqb, ne_eqb, and_left, and_right, and_parts, leb-true, ltb-true}
 use Rattle.shelf.specs.declared.literal.Literal.{Literal}
 use Rattle.shelf.specs.Literals.{Rising, variable}
 use Rattle.rules.specs.Clauses.{rises, same_codes}
@@ -43,6 +43,21 @@ module _ (V : ℕ) (cs : List ℕ) (b k : ℕ) (t : Bool) (so_far : rises V b (d
   pub rises_done : length cs ≤ k → true ≡ t
   unfolding rises
   rises_done h = ap (rises V b) (sym (drop_all k cs h)) ∙ so_far
+
+module _ (xs ys : List ℕ) (k : ℕ) (t : Bool) (so_far : same_codes (drop k xs) (drop k ys) ≡ t) where
+  same_turn : k < length xs → k < length ys → (eqb (get_or xs k 0) (get_or ys k 0) && same_codes (drop (k + 1) xs) (drop (k + 1) ys)) ≡ t
+  unfolding same_codes
+  same_turn h l = ap₂ same_codes (sym (drop_more xs k 0 h)) (sym (drop_more ys k 0 l)) ∙ so_far
+
+  pub same_stop : k < length xs → k < length ys → (get_or xs k 0 ≡ get_or ys k 0 → ⊥) → false ≡ t
+  same_stop h l ne = sym (and_left (eqb (get_or xs k 0) (get_or ys k 0)) (same_codes (drop (k + 1) xs) (drop (k + 1) ys)) (ne_eqb (get_or xs k 0) (get_or ys k 0) ne)) ∙ same_turn h l
+
+  pub same_more : k < length xs → k < length ys → get_or xs k 0 ≡ get_or ys k 0 → same_codes (drop (k + 1) xs) (drop (k + 1) ys) ≡ t
+  same_more h l e = ap (λ (x : Bool). x && same_codes (drop (k + 1) xs) (drop (k + 1) ys)) (sym (eq-eqb (get_or xs k 0) (get_or ys k 0) e)) ∙ same_turn h l
+
+  pub same_done : length xs ≤ k → length ys ≤ k → true ≡ t
+  unfolding same_codes
+  same_done h l = ap₂ same_codes (sym (drop_all k xs h)) (sym (drop_all k ys l)) ∙ so_far
 
 -- lists of unequal lengths differ
 pub unequal : (xs ys : List ℕ) → (length xs ≡ length ys → ⊥) → false ≡ same_codes xs ys

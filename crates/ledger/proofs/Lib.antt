@@ -1,2 +1,1 @@
 pub mod Billing
-pub mod Folding

@@ -85,7 +85,8 @@ pub fn meets_hard<K: CostKind, S: Shelf>(shelf: &S, ledger: &[Cell<K::Row>], str
 }
 
 // The proved cost with the amounts of the soft clauses that the plan leaves unmet,
-// and how many they are, as far as there are cells.
+// and how many they are, as far as there are cells. By a loop: `try_fold` takes up to half as
+// much time again.
 pub fn bill<K: CostKind, S: Shelf>(
     shelf: &S,
     ledger: &[Cell<K::Row>],
@@ -99,5 +100,9 @@ pub fn bill<K: CostKind, S: Shelf>(
         ledger,
         strip,
     };
-    (0..shown.covered()).try_fold((proved, 0), |bill, p| shown.with_owed(p, bill))
+    let mut bill = (proved, 0);
+    for p in 0..shown.covered() {
+        bill = shown.with_owed(p, bill)?;
+    }
+    Ok(bill)
 }

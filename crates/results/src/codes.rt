@@ -36,8 +36,8 @@ pub(crate) fn put(codes: &[u32], code: u32, more: &mut ResultCodes)
     more.insert(at, code);
 }
 
-// The union of two rising lists. By two indices: to take the fronts of two slices apart costs
-// half as much again where clauses are long.
+// The union of two rising lists. By two indices: to take the fronts of two slices apart takes
+// twice the time where clauses are long.
 pub(crate) fn merge(x: &ClauseCodes, y: &ClauseCodes, both: &mut ResultCodes)
     ensures { both.new.items ≡ union x.now.items y.now.items }
 {
@@ -77,13 +77,13 @@ pub(crate) fn turned_from(codes: &ClauseCodes, k: usize, later: &mut ClauseCodes
     }
 }
 
-// Whether a literal stands beside its opposite. That the codes rise, here and where results are
-// placed, is a premise and no type: they do up to the shelf's highest variable, and a vector of
-// codes does not know the shelf.
+// Whether a literal stands beside its opposite: two neighbours are of one variable, since the
+// codes rise. That they do, here and where results are placed, is a premise and no type: they do
+// up to the shelf's highest variable, and a vector of codes does not know the shelf.
 pub(crate) fn clashes(codes: &[u32]) -> bool
     ensures { (top : ℕ) → Spread top 2 codes.now → result ≡ vanishes codes.now }
 {
     codes.windows(2).any(
-        |pair| matches!(pair, [a, b] if *b == Literal { code: *a }.opposite().code),
+        |pair| matches!(pair, [a, b] if Literal { code: *a }.variable() == Literal { code: *b }.variable()),
     )
 }

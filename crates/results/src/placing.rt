@@ -12,7 +12,8 @@ use shelf::places::write_codes;
 use shelf::store::Shelf;
 
 // Puts one result into the place, if it takes one, with the cell m; the place for
-// the next.
+// the next. Inlined: a call for each result costs a define by many literals a fifth more.
+#[inline]
 fn place_one<S: Shelf, C: Copy>(
     shelf: &mut S,
     cells: &mut [C],
