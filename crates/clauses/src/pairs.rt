@@ -6,7 +6,7 @@ ghost use Rattle.shelf.specs.View.{clause};
 use shelf::store::Shelf;
 
 // Whether the places hold equal clauses. By a loop: with a closure for `all` it takes twice the
-// time where clauses are long.
+// time on rows, where clauses are long.
 pub fn same_clause<S: Shelf>(shelf: &S, i: usize, j: usize) -> bool
     ensures { S.fine shelf.now → result ≡ same_codes (clause (S.view shelf.now) i) (clause (S.view shelf.now) j) }
 {

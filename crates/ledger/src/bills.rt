@@ -85,8 +85,8 @@ pub fn meets_hard<K: CostKind, S: Shelf>(shelf: &S, ledger: &[Cell<K::Row>], str
 }
 
 // The proved cost with the amounts of the soft clauses that the plan leaves unmet,
-// and how many they are, as far as there are cells. By a loop: `try_fold` takes up to half as
-// much time again.
+// and how many they are, as far as there are cells. By a loop: `try_fold` takes a fifth more
+// time, or half as much again.
 pub fn bill<K: CostKind, S: Shelf>(
     shelf: &S,
     ledger: &[Cell<K::Row>],

@@ -77,9 +77,9 @@ pub(crate) fn turned_from(codes: &ClauseCodes, k: usize, later: &mut ClauseCodes
     }
 }
 
-// Whether a literal stands beside its opposite: two neighbours are of one variable, since the
-// codes rise. That they do, here and where results are placed, is a premise and no type: they do
-// up to the shelf's highest variable, and a vector of codes does not know the shelf.
+// Whether a literal stands with its opposite: in codes that rise, whether two neighbours are of
+// one variable. That they rise, here and where results are placed, is a premise and no type: they
+// do up to the shelf's highest variable, and a vector of codes does not know the shelf.
 pub(crate) fn clashes(codes: &[u32]) -> bool
     ensures { (top : ℕ) → Spread top 2 codes.now → result ≡ vanishes codes.now }
 {

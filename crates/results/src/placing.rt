@@ -12,8 +12,7 @@ use shelf::places::write_codes;
 use shelf::store::Shelf;
 
 // Puts one result into the place, if it takes one, with the cell m; the place for
-// the next. Inlined: a call for each result costs a define by many literals a fifth more.
-#[inline]
+// the next.
 fn place_one<S: Shelf, C: Copy>(
     shelf: &mut S,
     cells: &mut [C],
