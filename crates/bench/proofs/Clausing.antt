@@ -1,8 +1,8 @@
 -- A clause that is given: asked whether it fits, copied to scratch memory, and written to a
 -- place.
-use Rattle.std.proofs.Common.{◌≡◌, ℕ, ◌≤◌, Bool, true, false, ◌||◌, eqb, leb, List, [], ◌∷◌, length, take, sym, refl, ap, ◌∙◌, arith}
-use Rattle.std.proofs.lemmas.List.{take_all}
-use Rattle.std.proofs.lemmas.Bool.{leb-true, ne_eqb, and_parts}
+use Rattle.std.proofs.Common.{◌≡◌, ℕ, ◌<◌, ◌≤◌, Bool, true, false, cond, ◌||◌, eqb, leb, List, [], ◌∷◌, length, take, Some, None, sym, refl, ap, ◌∙◌, arith}
+use Rattle.std.proofs.lemmas.List.{length-map, take_all}
+use Rattle.std.proofs.lemmas.Bool.{lt-leb, le-leb, leb-true, ne_eqb, and_left, and_right, and_from, and_parts}
 use Rattle.shelf.specs.Literals.{none}
 use Rattle.shelf.specs.Room.{vacant, Writable}
 use Rattle.shelf.specs.View.{View}
@@ -18,6 +18,28 @@ use Rattle.steps.proofs.Verdicts.{yes_then}
 -- a clause that is short enough is copied whole
 pub copied : (ls : List Literal) {L : ℕ} {out : List ℕ} → out ≡ take 255 (codes ls) → length (codes ls) ≤ L → L ≤ 255 → out ≡ codes ls
 copied ls e l h = e ∙ take_all 255 (codes ls) (omega arith)
+
+-- one that fits is short enough
+pub fits_whole : (n : ℕ) (v : View) (cs : List ℕ) → clause_fits n v cs ≡ true → v.longest ≤ 255 → take 255 cs ≡ cs
+fits_whole n v cs f h =
+    let q = and_parts (rises (known n v) 0 cs) (leb (length cs) v.longest) f in
+    let l = leb-true (length cs) v.longest q.1 in
+    take_all 255 cs (omega (arith, l, h))
+
+-- the codes of a clause that fits, and of no other: not of one that is too long, nor of one that
+-- does not rise
+pub too_long : (n : ℕ) (v : View) (ls : List Literal) → v.longest < length ls → None ≡ cond (clause_fits n v (codes ls)) (Some (codes ls)) None
+too_long n v ls h =
+    let m : v.longest < length (codes ls) = simp length-map h in
+    let f : clause_fits n v (codes ls) ≡ false = and_right (rises (known n v) 0 (codes ls)) (leb (length (codes ls)) v.longest) (lt-leb (length (codes ls)) v.longest m) in
+    sym (ap (λ (b : Bool). cond b (Some (codes ls)) None) f)
+
+pub not_rising : (n : ℕ) (v : View) (cs : List ℕ) → false ≡ rises (known n v) 0 cs → None ≡ cond (clause_fits n v cs) (Some cs) None
+not_rising n v cs e = sym (ap (λ (b : Bool). cond b (Some cs) None) (and_left (rises (known n v) 0 cs) (leb (length cs) v.longest) (sym e)))
+
+pub fitting : (n : ℕ) (v : View) (cs out : List ℕ) → true ≡ rises (known n v) 0 cs → length cs ≤ v.longest → out ≡ cs → Some out ≡ cond (clause_fits n v cs) (Some cs) None
+fitting n v cs out e h o =
+    ap Some o ∙ sym (ap (λ (b : Bool). cond b (Some cs) None) (and_from (rises (known n v) 0 cs) (leb (length cs) v.longest) (sym e) (le-leb (length cs) v.longest h)))
 
 pub writable : (n : ℕ) (v : View) (p : ℕ) (cs : List ℕ) → clause_fits n v cs ≡ true → vacant v p ≡ true → Writable v p cs
 writable n v p cs f e =

@@ -2,7 +2,7 @@
 --
 --   Accepts, SoftTaken    on a grant, what a soft clause comes to
 --   Bills, BillOf         on a grant, the shown plan's cost and count
-use Rattle.std.specs.Prelude.{◌≡◌, ℕ, List, length, ℤ, Ok, Err, Result}
+use Rattle.std.specs.Prelude.{◌≡◌, ℕ, List, length, take, ℤ, Ok, Err, Result}
 use Rattle.cost.specs.Figures.{plus}
 use Rattle.faults.specs.declared.fault.Fault.{Fault}
 use Rattle.rules.specs.Cells.{soft, paid}
@@ -10,8 +10,10 @@ use Rattle.rules.specs.Showing.{summed}
 use Rattle.shelf.specs.Literals.{none}
 use Rattle.bench.specs.declared.case.accepted.Accepted.{Accepted}
 
--- on a grant, what a soft clause comes to, by exact figures
+-- on a grant, what a soft clause comes to, by exact figures; and a copy of its codes, which
+-- `copy_codes` ends at 255, has them all
 pub record SoftTaken {A : Type 0} (f : A → List ℤ) (cs : List ℕ) (xs total proved : List ℤ) (a : Accepted A) : Type 0 where
+  pub copied : take 255 cs ≡ cs
   pub amount_is : f a.amount ≡ xs
   pub total_is : f a.total ≡ plus total xs
   pub proved_is : f a.proved ≡ paid (none cs) (soft xs) proved

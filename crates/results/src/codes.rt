@@ -1,9 +1,9 @@
 // Clauses in scratch memory, as vectors of literal codes that rise, and what is
 // made of them. What is made goes into a vector that is lent, in the place of what it had.
-ghost use Rattle.std.specs.Prelude.{◌≡◌, ℕ, ◌<◌, ◌≤◌, length, drop};
+ghost use Rattle.std.specs.Prelude.{◌≡◌, ◌==◌, ℕ, ◌<◌, ◌≤◌, length, drop};
 ghost use Rattle.rules.specs.Clauses.{merge as union, vanishes, without as left_without};
 ghost use Rattle.results.specs.Turned.{turned};
-ghost use Rattle.shelf.specs.Literals.{put as put_in};
+ghost use Rattle.shelf.specs.Literals.{opposite as opposite_of, put as put_in};
 ghost use Rattle.results.specs.Spread.{Spread};
 
 use arrayvec::ArrayVec;
@@ -77,13 +77,20 @@ pub(crate) fn turned_from(codes: &ClauseCodes, k: usize, later: &mut ClauseCodes
     }
 }
 
-// Whether a literal stands with its opposite: in codes that rise, whether two neighbours are of
-// one variable. That they rise, here and where results are placed, is a premise and no type: they
-// do up to the shelf's highest variable, and a vector of codes does not know the shelf.
+// Whether one code is the opposite of the other: they differ in the lowest bit alone.
+fn opposed(a: u32, b: u32) -> bool
+    ensures { result ≡ (b == opposite_of a) }
+{
+    a ^ b == 1
+}
+
+// Whether a literal stands beside its opposite. That the codes rise, here and where results are
+// placed, is a premise and no type: they do up to the shelf's highest variable, and a vector of
+// codes does not know the shelf.
 pub(crate) fn clashes(codes: &[u32]) -> bool
     ensures { (top : ℕ) → Spread top 2 codes.now → result ≡ vanishes codes.now }
 {
-    codes.windows(2).any(
-        |pair| matches!(pair, [a, b] if Literal { code: *a }.variable() == Literal { code: *b }.variable()),
-    )
+    codes
+        .windows(2)
+        .any(|pair| matches!(pair, [a, b] if opposed(*a, *b)))
 }

@@ -1,11 +1,12 @@
-// Each trial makes a shelf, a ledger and a bench, and compares answers. Shelf and ledger are
-// passed to each call, as a caller of the bench passes them.
+// Each trial makes a shelf and a ledger, and but for the last a bench, and compares answers. Shelf
+// and ledger are passed to each call, as a caller of the bench passes them.
 use bench::case::Bench;
 use cost::amounts::{Minutes, MinutesRow, Slots, SlotsRow};
 use cost::kind::CostKind;
 use faults::fault::Fault;
 use ledger::cell::Cell;
 use ledger::cells::row_cell;
+use results::defining::place_define;
 use rows::RowShelf;
 use shelf::literal::Literal;
 use shelf::store::Shelf;
@@ -155,4 +156,27 @@ fn short_ledger(rt: HostRuntime) {
     let mut bench = Bench::<Slots>::new();
     assert_eq!(rt; told(bench.open(&mut shelf, &mut ledger, 1)), Err(1));
     assert_eq!(rt; told(bench.seal(&shelf, &ledger)), Err(1));
+}
+
+// The bench refuses to define by a literal that stands twice. Placed all the same, the clause of
+// all literals has it once, and the clause of each stands twice.
+#[test]
+fn a_literal_twice(rt: HostRuntime) {
+    let mut words = [0u32; 9];
+    let mut cells = [0u8; 3];
+    let mut shelf = RowShelf::new(&mut words, 2, 2);
+    place_define(&mut shelf, &mut cells, 2, &[Literal::of(1); 2], 0, 7);
+    for (place, low, high) in [
+        (0, Literal::of(1), Literal::not(2)),
+        (1, Literal::not(1), Literal::of(2)),
+        (2, Literal::not(1), Literal::of(2)),
+    ] {
+        let held = (shelf.literal(place, 0), shelf.literal(place, 1));
+        assert_eq!(rt;
+            (shelf.size(place), held),
+            (2, (low, high)),
+            "at place {place}"
+        );
+    }
+    assert_eq!(rt; cells, [7, 7, 7]);
 }

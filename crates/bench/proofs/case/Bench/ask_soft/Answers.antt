@@ -4,8 +4,9 @@ use Rattle.clauses.specs.Codes.{codes}
 use Rattle.cost.specs.Figures.{plus}
 use Rattle.ledger.specs.Given.{Taken, taken_told}
 use Rattle.rules.specs.Filling.{amount_fits}
+use Rattle.rules.specs.Questions.{passes}
 use Rattle.bench.specs.Meaning.{state_of}
-use Rattle.bench.proofs.Clausing.{empty_test}
+use Rattle.bench.proofs.Clausing.{empty_test, clause_passed, fits_whole}
 use Rattle.bench.proofs.Softly.{was_taken, soft_stop, soft_out, soft_pass}
 use Rattle.steps.proofs.Verdicts.{test_some}
 use Rattle.bench.proofs.case.Bench.ask_soft.Goals as goal
@@ -49,6 +50,9 @@ returns g c =
       is = λ h.
           (soft_pass k.scale s c.args.place xs cs (c.in_ok-ask_clause.ensures h) t.0 (k.figures c.in_ok-amount.amount) e (ap (λ (y : Taken). y.amount) t.1) (c.is_empty.ensures ∙ empty_test c.args.clause.now) _ c.in_ok-proved.ensures).0;
       accepted = λ h. record {
+        copied =
+            let q = clause_passed s c.args.place cs passes (c.in_ok-ask_clause.ensures h) in
+            fits_whole s.bench.n s.shelf cs q.0 (g.S.Shelf.sound _ h).longest_high;
         amount_is = ap (λ (y : Taken). y.amount) t.1;
         total_is = ap (λ (y : Taken). y.total) t.1;
         proved_is =
