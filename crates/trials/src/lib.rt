@@ -1,4 +1,5 @@
-// Trials of the bench on a row shelf, with both cost kinds and edge values.
+// Trials of the bench on a row shelf, with both cost kinds and edge values, and of a definition
+// that it refuses.
 
 #![tactic(auto)]
 
