@@ -1,5 +1,7 @@
-// Each trial makes a shelf and a ledger, and but for the last a bench, and compares answers. Shelf
-// and ledger are passed to each call, as a caller of the bench passes them.
+// Each trial makes a shelf and a ledger, most of them a bench too, and compares answers. Shelf and
+// ledger are passed to each call, as a caller of the bench passes them.
+ghost use Rattle.rows.specs.Shelves.{meaning};
+
 use bench::case::Bench;
 use cost::amounts::{Minutes, MinutesRow, Slots, SlotsRow};
 use cost::kind::CostKind;
@@ -7,8 +9,10 @@ use faults::fault::Fault;
 use ledger::cell::Cell;
 use ledger::cells::row_cell;
 use results::defining::place_define;
+use results::resolving::Pairing;
 use rows::RowShelf;
 use shelf::literal::Literal;
+use shelf::refusal::Refusal;
 use shelf::store::Shelf;
 use std::test::Fail;
 
@@ -179,4 +183,80 @@ fn a_literal_twice(rt: HostRuntime) {
         );
     }
     assert_eq!(rt; cells, [7, 7, 7]);
+}
+
+// A shelf that tells each literal twice, and so is never in order.
+#[derive(Drop)]
+struct Doubled<'a> {
+    rows: RowShelf<'a>,
+}
+
+impl<'a> Shelf for Doubled<'a> {
+    ghost fine = { λ s. ⊥ };
+
+    ghost view = { λ s. meaning s.rows };
+
+    ghost sound = { λ s f. absurd f };
+
+    fn place_count(&self) -> usize {
+        self.rows.place_count()
+    }
+
+    fn highest_variable(&self) -> usize {
+        self.rows.highest_variable()
+    }
+
+    fn longest_clause(&self) -> usize {
+        self.rows.longest_clause()
+    }
+
+    fn size(&self, place: usize) -> usize {
+        (self.rows.size(place) * 2).min(255)
+    }
+
+    fn literal(&self, place: usize, k: usize) -> Literal {
+        self.rows.literal(place, k / 2)
+    }
+
+    fn holds(&self, place: usize, literal: Literal) -> bool {
+        self.rows.holds(place, literal)
+    }
+
+    fn add(&mut self, place: usize, literal: Literal) -> Result<(), Refusal> {
+        self.rows.add(place, literal)
+    }
+
+    fn wipe(&mut self, place: usize) -> Result<(), Refusal> {
+        self.rows.wipe(place)
+    }
+}
+
+// Of clauses that are told with each literal twice, a result that has one twice is counted and
+// placed, and one that has a literal and its opposite is not.
+#[test]
+fn a_shelf_out_of_order(rt: HostRuntime) -> Result<(), Fail> {
+    let mut words = [0u32; 20];
+    let mut cells = [0u8; 5];
+    let mut shelf = Doubled {
+        rows: RowShelf::new(&mut words, 2, 3),
+    };
+    shelf.add(0, Literal::of(1))?;
+    shelf.add(0, Literal::of(2))?;
+    shelf.add(1, Literal::not(1))?;
+    let pairing = Pairing {
+        i: 0,
+        j: 1,
+        variable: 1,
+        with_i: true,
+        with_j: true,
+    };
+    let tally = pairing.survey_resolve(&shelf);
+    assert_eq!(rt; (tally.kept, tally.empty), (2, false));
+    pairing.place_resolve(&mut shelf, &mut cells, 2, 7);
+    assert_eq!(rt;
+        (shelf.rows.size(2), shelf.rows.size(3), shelf.rows.size(4)),
+        (1, 2, 0)
+    );
+    assert_eq!(rt; cells, [0, 0, 7, 7, 0]);
+    Ok(())
 }
